@@ -50,7 +50,7 @@ pub either : (b : Bool) (x y t : Turn) → Advances t x → Advances t y → Adv
 either true x y t p q = p
 either false x y t p q = q
 
--- what advances, where it does not run out of memory
+-- what advances, if it does not run out of memory
 pub advanced : {A B : Type 0} (f : Turn → Turn) (g : (t : Turn) → Advances t (f t)) (r : Result A B) (t u : Turn) → OnOk r (u ≡ f t) → OnOk r (Advances t u)
 advanced f g (Ok x) t u h = rw h (g t)
 advanced f g (Err e) t u h = h

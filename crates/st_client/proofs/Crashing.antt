@@ -105,7 +105,7 @@ both_more F ss ls i s l n e =
     let m : i < length ls = omega (arith, n, e) in
     ap (λ xs. F xs (drop i ls)) (drop_more ss i s n) ∙ ap (λ xs. F (get_or ss i s ∷ drop (i + 1) ss) xs) (drop_more ls i l m)
 
--- nothing is there, where a client is crashed
+-- nothing is there if a client is crashed
 pub nothing_dirty : (id : ClientId) (config : Config) (ss : List ServerId) (ls : List Life) (server : ServerId) → false ≡ has_dirty_with (crashed_client id config ss ls) server
 nothing_dirty id config ss ls server = ap (λ (st : Store). is_any st.pages.dirty) (sym (no_store server ss ls))
 

@@ -1,4 +1,4 @@
--- Where a step of a client begins with the lease of a server over, nothing of the server is left but its next life, and nothing of it goes out.
+-- If a step of a client begins with the lease of a server over, nothing of the server is left but its next life, and nothing of it goes out.
 use Rattle.st_lemmas.proofs.Words
 use Words.{◌≡◌, Bool, true, false, not, ◌||◌, Some, ServerId, Stamp, ClientInput}
 use Words.Tables.{each_passes, found_at}
@@ -18,7 +18,7 @@ found_over v c now a over e =
     by true q h = h
     by false q h = cc
 
--- What a step discards, where it begins with the lease of a server over.
+-- What a step discards, if it begins with the lease of a server over.
 pub step_discards : (v : ServerId) (c : ClientState) (now : Stamp) (input : ClientInput) → IsOver v c now → Discards v c input (client_step c now input).state (client_step c now input).out
 step_discards v c now input over =
     record { emptied = λ a e. step_emptied v c now input a e (found_over v c now a over e); unused = step_unused v c input now over }

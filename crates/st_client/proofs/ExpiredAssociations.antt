@@ -62,7 +62,7 @@ module _ (v : ServerId) (known : BlockAt → Bool) (os : List Operation) where
         cond : C t.here.server t.here.session t.here.greeting;
       }
 
-  -- The conditions: it is another server; it is one where there is a session; and if there is one or a greeting.
+  -- The conditions: it is another server; it is one if there is a session; and it is one if there is a session or a greeting.
   abbrev pub Used : ServerId → Option ClientSession → Option Stamp → Type 0
   Used s o g = same_server s v ≡ false
 

@@ -27,3 +27,4 @@ pub mod Resting
 pub mod Running
 pub mod Sleeping
 pub mod Restarts
+pub mod CrashedCounts

@@ -13,7 +13,7 @@ use Rattle.st_client.specs.Room.{HasRoom}
 use Rattle.st_client.specs.Invariants.{IsSound}
 use Rattle.st_rules.specs.declared.node.StepRefusal.TheVariants.{Crashed}
 
--- where a step returns outputs, it is the step of the machine
+-- if a step returns outputs, it is the step of the machine
 steps_ok : (P : NodeTurn → Type 0) (old new : ClientNode) (r : Result (List Output) StepFault) (now : Stamp) (input : ClientInput) → Steps old new r (node_step old now input) →
     P (node_turn old (client_step old.state now input)) → IfOk r (λ out. P (record { node = new; out = out }))
 unfolding node_step
@@ -30,7 +30,7 @@ pub node_sends : (old new : ClientNode) (r : Result (List Output) StepFault) (no
     now.0 ≤ 2 ^ 62 → comes_fit input ≡ true → IfOk r (λ out. list_all is_sent out ≡ true)
 node_sends old new r now input s i h time e = steps_ok (λ t. list_all is_sent t.out ≡ true) old new r now input s (step_sends old.state now input i h time e)
 
--- What the step discards, where it begins with the lease of a server over.
+-- What the step discards, if it begins with the lease of a server over.
 pub node_discards : (server : ServerId) (old new : ClientNode) (r : Result (List Output) StepFault) (now : Stamp) (input : ClientInput) → Steps old new r (node_step old now input) →
     IsOver server old.state now → IfOk r (λ out. Discards server old.state input new.state out)
 node_discards server old new r now input s over = steps_ok (λ t. Discards server old.state input t.node.state t.out) old new r now input s (step_discards server old.state now input over)

@@ -88,7 +88,7 @@ place_idle run t items i a l e h k d =
     ∙ ap (leave_at i (without_at i t)) (d (enter t a.here) refl (sym k) refl)
     ∙ ap (λ xs. with_associations xs t) (put_back t.state.associations i a.here g)
 
--- So many are done, and the others are left: the rule at each of them leads to the same, and each of them is ready.
+-- This many are done, and the others are left: the rule at each of them leads to the same, and each of them is ready.
 pub record IsDone (run : Turn → Turn) (ready : Config → Association → Bool) (n i : ℕ) (t s : ClientTurn) : Type 0 where
   pub done : List Association
   pub left : List Association

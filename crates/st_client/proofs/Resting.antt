@@ -1,4 +1,4 @@
--- A step begins where counters have room, and what it leaves rests.
+-- A step begins only if counters have room, and what it leaves rests.
 use Rattle.st_lemmas.proofs.Words
 use Words.{◌≡◌, ℕ, ◌<◌, ◌^◌, Bool, true, List, [], ◌∷◌, ◌++◌, map, refl, sym, ◌∙◌, arith, Option, Some, None, nat_lt, IsTrue, ◌↔◌, list_all, and_parts}
 use Words.{and_from, lt-ltb, ltb-true, Config, ClientId, Life, ServerId, Output}

@@ -1,4 +1,4 @@
--- Where nothing waits and nothing is due, rules do nothing.
+-- If nothing waits and nothing is due, rules do nothing.
 use Rattle.st_lemmas.proofs.Words
 use Words.{◌≡◌, ℕ, Bool, true, false, ◌&&◌, ◌||◌, List, [], ◌∷◌, ◌++◌, refl, sym, ap, ◌∙◌, append_assoc, Option, Some, None, ◌==◌, cond, is_some, not, list_any}
 use Words.{ServerId, Stamp, Ask, Body, Header, Operation, Release, Request, DirtyPage}

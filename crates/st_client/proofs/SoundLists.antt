@@ -51,7 +51,7 @@ put_over {A} q x (y ∷ ys) e = go (q y) e (put_over q x ys)
     go true e i = refl
     go false e i = let z = i e in omega arith
 
--- and a row has a place where one is found, or fewer than the most are there
+-- and a row has a place if one is found, or fewer than the most are there
 pub put_fits : {A : Type 0} (q : A → Bool) (x : A) (xs : List A) (n : ℕ) → length xs ≤ n → (is_some (find q xs) || nat_lt (length xs) n) ≡ true → length (put q x xs) ≤ n
 put_fits q x xs n l e = go (is_some (find q xs)) refl e
   where

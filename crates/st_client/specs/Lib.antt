@@ -6,3 +6,4 @@ pub mod Ends
 pub mod Room
 pub mod Nodes
 pub mod IdleRules
+pub mod Counts

@@ -2,6 +2,7 @@
 //! `docs/PROTOCOL.md`, "The client", has the rules.
 #![tactic(auto)]
 
+mod counts;
 mod ends;
 mod fresh_client;
 mod lives;
@@ -13,6 +14,7 @@ mod state;
 mod step;
 mod turn;
 
+pub use counts::ClientCounts;
 pub use ends::LeaseEnds;
 pub use node::ClientNode;
 pub use st_base::{LostRow, LostRows, NameAsk, NameRow, NameRows};

@@ -3,6 +3,7 @@ ghost use Rattle.std.specs.Prelude.{◌≡◌, ◌≤◌, ◌^◌, ◌++◌, tru
 ghost use Rattle.std.specs.List.{list_all};
 ghost use Rattle.st_base.specs.Config as settings;
 ghost use Rattle.st_base.specs.declared.ids.ServerId.{ServerId};
+ghost use Rattle.st_client.specs.Counts.{counts_with, is_awaited_with};
 ghost use Rattle.st_client.specs.Losses.{Discards, IsOver};
 ghost use Rattle.st_client.specs.Ends.{end_in};
 ghost use Rattle.st_client.specs.Inputs.{comes_fit, is_sent, Runs, Steps};
@@ -11,6 +12,7 @@ ghost use Rattle.st_client.specs.Room.{HasRoom};
 ghost use Rattle.st_rules.specs.Client as client;
 ghost use Rattle.st_rules.specs.World as world;
 
+use crate::counts::ClientCounts;
 use crate::ends::LeaseEnds;
 use crate::lives::{are_low, copied, life_among, push_crashed, started};
 use crate::state::ClientState;
@@ -177,6 +179,27 @@ impl ClientNode {
     {
         match &self.state {
             Some(state) => state.has_write_out(server),
+            None => false,
+        }
+    }
+
+    /// How much the client has of a server.
+    pub fn counts(&self, server: ServerId) -> ClientCounts
+        ensures { result ≡ counts_with self.now.state server }
+    {
+        match &self.state {
+            Some(state) => state.counts(server),
+            None => ClientCounts::without(0),
+        }
+    }
+
+    /// Whether an operation waits for a grant of the file, or for what else it needs with the lock
+    /// that is held.
+    pub fn is_awaited(&self, server: ServerId, ino: u32) -> bool
+        ensures { result ≡ is_awaited_with self.now.state server ino }
+    {
+        match &self.state {
+            Some(state) => state.is_awaited(server, ino),
             None => false,
         }
     }

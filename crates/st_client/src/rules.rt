@@ -18,7 +18,7 @@ fn is_from(header: &Header, server: ServerId) -> bool
     u32::from(header.from) == server.node_as_u32()
 }
 
-/// Whether two servers are one.
+/// Whether two servers are the same.
 fn is_same(a: ServerId, b: ServerId) -> bool
     ensures { result ≡ same_server a b }
 {

@@ -103,7 +103,7 @@ impl ClientState {
     }
 
     /// The association with a server.
-    fn at(&self, server: ServerId) -> Option<&Association>
+    pub(crate) fn at(&self, server: ServerId) -> Option<&Association>
         ensures { option_copied result ≡ option_map (association_told self.now.id self.now.config) (client.association_with self.now server) }
     {
         for a in self.parts.associations.iter() {

@@ -21,7 +21,7 @@ some_told cs n ino p kind e = by (command_of cs n) refl e
         let k : kind ≡ c.kind = ap (λ z. z.2) f in
         λ j. Some (record { number = sym q j; ino = i j; page = g j; kind = k j })
 
--- numbers stay below where a command ends
+-- numbers stay below when a command ends
 pub below_ended : (next : ℕ) (cs : List PageCommand) (n : ℕ) (ok : Bool) (version : ℕ) → list_all (is_below next) cs ≡ true → list_all (is_below next) (end_command cs n ok version).commands ≡ true
 unfolding end_command end_at
 below_ended next cs n ok version h = by (command_of cs n)

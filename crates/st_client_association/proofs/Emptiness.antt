@@ -9,7 +9,7 @@ pub any_is : {A : Type 0} (xs : List A) → nat_lt 0 (length xs) ≡ is_any xs
 any_is [] = refl
 any_is (x ∷ xs) = lt-ltb 0 (length (x ∷ xs)) (omega arith)
 
--- where there is a first one
+-- if there is a first one
 pub any_first : {A : Type 0} (xs : List A) → is_some (slice_get xs 0) ≡ is_any xs
 any_first [] = refl
 any_first (x ∷ xs) = refl
@@ -25,7 +25,7 @@ any_placed k (x ∷ xs) = by (nat_lt k x) (k == x)
     by false true = refl
     by false false = refl
 
--- a file is demanded where there is a demand
+-- a file is demanded if there is a demand
 pub any_demanded : (ds : List DemandedFile) → is_any ds ≡ is_any (rising (map ino_of_demand ds))
 unfolding rising
 any_demanded [] = refl

@@ -18,7 +18,7 @@ unused ps ino p e = by (dirty_of ps ino p) e
     by None e = at (clean_of ps ino p) e
     by (Some d) e = cc
 
--- the page is read, and used where it is cached
+-- the page is read, and used if it is cached
 pub read_as : {E : Type 0} (t u : Turn) (ino : ℕ) (p : PageNo) (r : Result (Option (List ℕ)) E) → IfOk r (λ bytes. bytes ≡ cached t.here.store.pages ino p) →
     u ≡ with_pages (use_page t.here.store.pages ino p) t → IfOk r (λ bytes. Reads t u bytes ino p)
 read_as t u ino p (Err e) h f = tt

@@ -1,3 +1,5 @@
 pub mod Turns
 pub mod Associations
 pub mod Activity
+pub mod Counts
+pub mod AwaitedGrants

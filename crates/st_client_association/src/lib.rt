@@ -4,6 +4,7 @@
 
 mod association;
 mod command_ends;
+mod counts;
 mod dirty_row;
 mod disks;
 mod lease_loss;

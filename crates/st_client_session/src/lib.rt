@@ -3,6 +3,7 @@
 //! commands", has the rules.
 #![tactic(auto)]
 
+mod counts;
 mod lists;
 mod locks;
 mod permits;

@@ -16,7 +16,7 @@ use Rattle.st_lemmas.proofs.Once.{none_any}
 use Rattle.st_lemmas.proofs.Puts.{find_put_by, find_put_other}
 use Rattle.st_client_store.specs.Stores.{AreMatched, agree, is_matched}
 
--- where a command of a page isn't a read of it
+-- if a command of a page isn't a read of it
 write_there : (b x : Bool) → x ≡ true → not (not b && x) ≡ true → b ≡ true
 write_there true x e f = refl
 write_there false x e f = cc

@@ -43,7 +43,7 @@ AreMatched dirty cs = list_all (is_matched dirty) cs ≡ true
 abbrev pub changed : ℕ → PageNo → Pages → ServerStore → ServerStore
 changed ino p ps s = record s { store = record s.store { pages = ps; commands = pages.forget_read s.store.commands ino p } }
 
--- a change answers as its definition; if it refuses and if memory runs out nothing changes
+-- a change answers as its definition says; if it refuses, or if memory runs out, nothing changes
 abbrev pub Changes : ServerStore → ServerStore → Result (Unit {0}) CacheRefusal → ℕ → PageNo → Result Pages WriteRefusal → Type 0
 Changes old new (Ok v) ino p machine = record { written : machine ≡ Ok new.store.pages; left : new ≡ changed ino p new.store.pages old }
 Changes old new (Err DirtyFull) ino p machine = record { full : machine ≡ Err writing.DirtyFull; same : new ≡ old }
@@ -57,6 +57,6 @@ with_commands cs s = record s { store = record s.store { commands = cs } }
 abbrev pub with_pages : Pages → ServerStore → ServerStore
 with_pages ps s = record s { store = record s.store { pages = ps } }
 
--- the end of a command leaves and answers as its definition
+-- the end of a command leaves and answers what its definition says
 abbrev pub Ends : ServerStore → ServerStore → Ended → CommandEnd → Type 0
 Ends old new ended e = (ended ≡ e.ended) × (new ≡ with_commands e.commands old)

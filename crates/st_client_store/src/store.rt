@@ -59,6 +59,20 @@ impl Store {
         self.pages.dirty_count()
     }
 
+    /// How many pages are clean.
+    pub fn clean_count(&self) -> usize
+        ensures { result ≡ length self.now.store.pages.clean }
+    {
+        self.pages.clean_count()
+    }
+
+    /// How many disk commands are outstanding.
+    pub fn command_count(&self) -> usize
+        ensures { result ≡ length self.now.store.commands }
+    {
+        self.commands.len()
+    }
+
     /// The dirty page at a place of the list.
     pub fn dirty_at(&self, i: usize) -> &DirtyPage
         requires { i < length self.now.store.pages.dirty }

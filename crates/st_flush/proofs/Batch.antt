@@ -46,7 +46,7 @@ module _ (s : ClientSession) (now : Stamp) (tick : Bool) where
 
 -- Other pages, as one goes out.
 
--- two places are one
+-- two places are the same
 abbrev pub same_place : ℕ × PageNo → ℕ × PageNo → Bool
 same_place x y = (x.0 == y.0) && same_page x.1 y.1
 

@@ -30,7 +30,7 @@ module _ {A : Type 0} (p : A → Bool) where
   find_end (y ∷ ys) zero l = absurd (omega arith)
   find_end (y ∷ ys) (suc i) l = find_end ys i (omega arith)
 
--- a row passes where one is found
+-- a row passes if one is found
 pub some_found : {A : Type 0} (p : A → Bool) (xs : List A) → is_some (find p xs) ≡ list_any p xs
 some_found p [] = refl
 some_found {A} p (x ∷ xs) = go (p x) (some_found p xs)

@@ -58,6 +58,6 @@ told c = (c.ino, c.page, c.kind)
 abbrev pub told_on : PageCommand → ℕ × IoKind
 told_on c = (c.number, c.kind)
 
--- the end of a command leaves and answers as its definition
+-- the end of a command leaves and answers what its definition says
 abbrev pub Ends : ServerCommands → ServerCommands → Ended → CommandEnd → Type 0
 Ends old new ended e = (ended ≡ e.ended) × (new ≡ with_commands e.commands old)

@@ -111,6 +111,13 @@ impl Flusher {
         })
     }
 
+    /// How many commands are outstanding.
+    pub fn len(&self) -> usize
+        ensures { result ≡ length self.now.commands }
+    {
+        self.commands.len()
+    }
+
     /// The file, the page and the kind of the command of this number, or `None` if it is not
     /// outstanding. It does not allocate.
     pub fn of(&self, number: u64) -> Option<(u32, PageNo, IoKind)>

@@ -105,7 +105,7 @@ starts_left wait now timers news old new h u e = λ k.
     ∙ sym (any_kept (began k) (λ t. not (is_over wait now t)) (not (is_past wait now k)) (λ t p. ap (λ n. not (nat_le (n + wait) now.0)) (moment_is k (start_of t) p)) timers)
     ∙ ap (list_any (began k)) (sym e)
 
--- Where the first is not over none is.
+-- If the first is not over, none is.
 
 module _ {A : Type 0} where
   some_by : (p : A → Bool) (x : A) (xs : List A) (b : Bool) → p x ≡ b → (list_any p xs ≡ true → (y : A) × (p y ≡ true) × ((w : A → Bool) → w y ≡ true → list_any w xs ≡ true)) → b || list_any p xs ≡ true
@@ -152,7 +152,7 @@ first_young wait now timers starts x h a f = no_timer wait now timers starts h (
 pub no_starts : (wait : ℕ) (now : Stamp) (timers : List Suspect) (starts : BTreeSet (Stamp × ClientId)) → AreStarts timers starts → starts.keys ≡ [] → list_any (is_over wait now) timers ≡ false
 no_starts wait now timers starts h e = no_timer wait now timers starts h (ap (list_any (is_past wait now)) e)
 
--- Where no timer is over, none goes and none is reported.
+-- If no timer is over, none goes and none is reported.
 
 keep_by : (p : Suspect → Bool) (t : Suspect) (ts : List Suspect) (b : Bool) → (list_any p ts ≡ false → (filter p ts ≡ []) × (filter (λ s. not (p s)) ts ≡ ts)) → b || list_any p ts ≡ false
     → (cond b (t ∷ filter p ts) (filter p ts) ≡ []) × (cond (not b) (t ∷ filter (λ s. not (p s)) ts) (filter (λ s. not (p s)) ts) ≡ t ∷ ts)

@@ -1,4 +1,4 @@
-ghost use Rattle.std.specs.Prelude.{◌≡◌, true, false, IfOk, IsOk, OnOk, OnErr};
+ghost use Rattle.std.specs.Prelude.{◌≡◌, true, false, IfOk, IsOk, OnOk, OnErr, length};
 ghost use Rattle.std.specs.Bool.{OnTrue};
 ghost use Rattle.std.specs.List.{list_any};
 ghost use Rattle.st_base.specs.Config as settings;
@@ -128,6 +128,13 @@ impl Authority {
         drop_past(&mut self.starts, self.wait, now);
         tell_clients(&mut self.clients, &self.timers);
         Ok(over)
+    }
+
+    /// How many clients are suspect.
+    pub fn len(&self) -> usize
+        ensures { result ≡ length self.now.suspects }
+    {
+        self.timers.len()
     }
 
     /// The clients whose timer runs, in rising order. It does not allocate.

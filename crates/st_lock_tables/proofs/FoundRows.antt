@@ -19,7 +19,7 @@ module _ {A : Type 0} where
   some_counted true d x xs e = lt-ltb 0 (suc (length xs)) (omega arith)
   some_counted false d x xs e = e
 
-  -- some row passes where the count is not 0
+  -- some row passes if the count is not 0
   pub any_counted : (p : A → Bool) (xs : List A) → nat_lt 0 (length (filter p xs)) ≡ list_any p xs
   any_counted p [] = refl
   any_counted p (x ∷ xs) = some_counted (p x) (list_any p xs) x (filter p xs) (any_counted p xs)
@@ -37,7 +37,7 @@ module _ {A : Type 0} where
   unseen_by q f x xs true h e = absurd (true≢false e)
   unseen_by q f x xs false h e = ap (λ l. x ∷ l) (h e)
 
-  -- where none passes, nothing changes
+  -- if none passes, nothing changes
   pub none_changed : (q : A → Bool) (f : A → A) (xs : List A) → list_any q xs ≡ false → map (λ r. if q r then f r else r) xs ≡ xs
   none_changed q f [] h = refl
   none_changed q f (x ∷ xs) h = unseen_by q f x xs (q x) (none_changed q f xs) h
@@ -46,7 +46,7 @@ module _ {A : Type 0} where
     not_one : (x : A) → p x ≡ false → q x ≡ false
     not_one x e = false_from_ne_true (q x) (λ s. true≢false (sym (h x s) ∙ e))
 
-    -- where none passes a weaker test, all stay
+    -- if none passes a weaker test, all stay
     pub all_stay : (xs : List A) → list_any p xs ≡ false → filter (λ x. not (q x)) xs ≡ xs
     all_stay [] e = refl
     all_stay (x ∷ xs) e =

@@ -72,7 +72,7 @@ some_or_none : (xs : List ℕ) → option_map client (slice_get xs 0) ≡ None �
 some_or_none [] e = refl
 some_or_none (x ∷ xs) e = cc
 
--- where no other client's lock conflicts, no row conflicts
+-- if no other client's lock conflicts, no row conflicts
 pub no_holder : (l : Locks) (c : ClientId) (ino : ℕ) (mode : Mode) → holder_against l c ino mode ≡ None → list_any (stands_against c ino mode) l.rows ≡ false
 unfolding least
 no_holder l c ino mode e =

@@ -67,7 +67,7 @@ told (Some r) = Some (r.g, r.mode)
 abbrev pub acquired : Locks → Verdict → Acquired
 acquired l v = record { locks = l; verdict = v }
 
--- an acquire answers as its definition; if it refuses and if memory runs out nothing changes
+-- an acquire answers as its definition says; if it refuses, or if memory runs out, nothing changes
 abbrev pub Answers : Locks → Locks → Result Verdict LockRefusal → Result Acquired AcquireRefusal → Type 0
 Answers old new (Ok v) machine = machine ≡ Ok (acquired new v)
 Answers old new (Err Memory) machine = new ≡ old
@@ -95,7 +95,7 @@ same_file a b = a.0 == b.0
 abbrev pub with_one : Locks → LockRow → Locks
 with_one l r = record l { rows = l.rows ++ r ∷ [] }
 
--- an install answers as its definition; if it refuses nothing changes, and if memory runs out nothing is promised
+-- an install answers as its definition says; if it refuses, nothing changes, and if memory runs out, nothing is promised
 abbrev pub Installs : Locks → Locks → Result (Unit {0}) LockRefusal → Result Locks InstallRefusal → Type 0
 Installs old new (Ok v) machine = machine ≡ Ok new
 Installs old new (Err Memory) machine = Unit {0}

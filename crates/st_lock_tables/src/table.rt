@@ -190,6 +190,20 @@ impl PlainTable {
         self.epoch
     }
 
+    /// How many rows there are.
+    pub fn row_count(&self) -> usize
+        ensures { result ≡ length self.now.rows }
+    {
+        self.rows.len()
+    }
+
+    /// How many waits there are.
+    pub fn wait_count(&self) -> usize
+        ensures { result ≡ length self.now.waiters }
+    {
+        self.waits.len()
+    }
+
     /// The client's row of the file.
     pub fn row_at(&self, client: ClientId, ino: u32) -> Option<LockRow>
         ensures row { result ≡ locks.row_of self.now client ino }

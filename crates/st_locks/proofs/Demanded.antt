@@ -86,7 +86,7 @@ none_of : {A : Type 0} (o : Option A) → not (is_some o) ≡ true → o ≡ Non
 none_of None e = refl
 none_of (Some x) e = absurd (true≢false (sym e))
 
--- where no moment is old, no demand that is kept by one is
+-- if no moment is old, no demand that is kept by one is
 young : (k : Config) (now : Stamp) (ms : Moments) (ino : ℕ) (s : Stamp) → list_any (is_old k now) ms ≡ false → is_kept ms ino s ≡ true → nat_le (s.0 + k.retry) now.0 ≡ false
 young k now ms ino s q e =
     let x = some_one (is_by ino s) ms e in
@@ -418,7 +418,7 @@ idle_by k now tick cs ino p None q d = refl
 idle_by k now tick cs ino p (Some w) q d =
     idle_clients k now tick (wish w.mode) w.ino p (to_demand p.locks cs w) (λ c e. d w q c (sym (demanded_way p.locks cs w c) ∙ e))
 
--- where no demand is sent, a pass over the file does nothing
+-- if no demand is sent, a pass over the file does nothing
 pub idle_demands : (k : Config) (now : Stamp) (tick : Bool) (cs : List ClientId) (ino : ℕ) (p : Demanding) → AreIdle k now tick cs p.locks ino → demand_for k now tick cs (find (is_wait_on ino) p.locks.waiters) p ≡ p
 idle_demands k now tick cs ino p d = idle_by k now tick cs ino p (find (is_wait_on ino) p.locks.waiters) refl d
 
@@ -455,7 +455,7 @@ module _ (k : Config) (now : Stamp) (tick : Bool) (cs : List ClientId) (ino : �
       (λ e. timed_same j m (same_by k now tick cs ino j p e (Some v) q) (a e))
       (cases_Bool (ino == j))
 
--- where nobody waits for the file, nothing must be timed
+-- if nobody waits for the file, nothing must be timed
 times_none : (cs : List ClientId) (ino : ℕ) (l : Locks) (ms : Moments) → find (is_wait_on ino) l.waiters ≡ None → Times cs (λ j. ino == j) l ms l ms
 times_none cs ino l ms q j a =
     ⊎_elim

@@ -48,7 +48,7 @@ by_own ino s = λ i. eq-eqb ino ino refl i && own i
         lt-own : (n : ℕ) → nat_le n n ≡ true
         lt-own n = grind arith
 
--- Where the first moment is not old none is.
+-- If the first moment is not old, none is.
 
 not_later : (a b x y : ℕ) (e f : Bool) → nat_lt a b ≡ e → (a == b) ≡ f → is_gt (ordering_then (cond e Less (cond f Equal Greater)) (nat_cmp x y)) ≡ false → a ≤ b
 not_later a b x y true f p q h = let l = ltb-true a b p in omega (arith, l)

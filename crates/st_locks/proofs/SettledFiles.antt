@@ -39,7 +39,7 @@ module _ {A : Type 0} where
   none_by p x xs true h e = absurd (true≢false e)
   none_by p x xs false h e = h e
 
-  -- where none passes, none is found
+  -- if none passes, none is found
   pub none_found : (p : A → Bool) (xs : List A) → list_any p xs ≡ false → find p xs ≡ None
   none_found p [] e = refl
   none_found p (x ∷ xs) e = none_by p x xs (p x) (none_found p xs) e
@@ -328,7 +328,7 @@ same_dropped l ino j n =
       waits = filter_apart (is_wait_on j) (λ w. not (is_wait_on ino w)) (λ w e. other_file w.ino ino j (not-false (is_wait_on ino w) e) n) l.waiters;
     }
 
--- where the first waiter may not be granted, a pass over the file does nothing
+-- if the first waiter may not be granted, a pass over the file does nothing
 pub idle_grants : (i n : ℕ) (p : Granting) → next_waiter p.locks i ≡ None → grant_file i n p ≡ p
 unfolding grant_file
 idle_grants i zero p e = refl

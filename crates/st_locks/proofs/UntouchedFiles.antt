@@ -54,7 +54,7 @@ waited_rests l m ino f j e =
     (λ q. inl (f j q))
     (cases_Bool (ino == j))
 
--- a change of one file, which was marked where somebody waits for it, leaves a table settled
+-- a change of one file, which was marked if somebody waits for it, leaves a table settled
 pub kept_waited : (l m : Locks) (ino : ℕ) (g d h k : TouchedFiles) (ms : Moments) (cs : List ClientId) → IsSettled l g d ms cs → ((j : ℕ) → (ino == j) ≡ false → SameOn j l m) → MarksWaited m ino g h → MarksWaited m ino d k → IsSettled m h k ms cs
 kept_waited l m ino g d h k ms cs s f a b = kept_marked (λ j. is_waited m ino && (ino == j)) l m g d h k ms cs s (waited_rests l m ino f) a b
 
@@ -67,7 +67,7 @@ module _ {A : Type 0} where
   none_step p x ys false true rest q h e = ap (λ z. cond z (Some x) (find p ys)) q ∙ h e
   none_step p x ys false false rest q h e = h e
 
-  -- where none passes both tests, the second leaves none that passes the first
+  -- if none passes both tests, the second leaves none that passes the first
   none_left : (p t : A → Bool) (xs : List A) → list_any (λ x. p x && t x) xs ≡ false → find p (filter t xs) ≡ None
   none_left p t [] e = refl
   none_left p t (x ∷ xs) e = none_step p x (filter t xs) (p x) (t x) (list_any (λ x. p x && t x) xs) refl (none_left p t xs) e
@@ -100,7 +100,7 @@ dropped_rests l ino j =
     (λ q. inl (same_dropped l ino j q))
     (cases_Bool (ino == j))
 
--- where all waits for a file go, no file must be marked
+-- if all waits for a file go, no file must be marked
 pub kept_dropped : (l : Locks) (ino : ℕ) (g d : TouchedFiles) (ms : Moments) (cs : List ClientId) → IsSettled l g d ms cs → IsSettled (drop_file_waits l ino) g d ms cs
 kept_dropped l ino g d ms cs s = kept_rests l (drop_file_waits l ino) g d g d ms cs s (λ j e. (e, dropped_rests l ino j)) (λ j e. (e, dropped_rests l ino j))
 
@@ -117,7 +117,7 @@ forgotten_rests l c j e f =
     (λ q. inr (none_left (is_wait_on j) (λ w. not (is_wait_by c w)) l.waiters q))
     (cases_Bool (is_waited_besides l c j))
 
--- a client's rows and waits go; its files were marked where another client waits for them
+-- a client's rows and waits go; its files were marked if another client waits for them
 pub kept_forgotten : (l : Locks) (c : ClientId) (g gs h d ds k : TouchedFiles) (ms : Moments) (cs : List ClientId) → IsSettled l g d ms cs → MarksAll (is_held_up l c) g gs → MarksAll (is_shared_wait l c) gs h → MarksAll (is_held_up l c) d ds → MarksAll (is_shared_wait l c) ds k
     → IsSettled (forget l c) h k ms cs
 kept_forgotten l c g gs h d ds k ms cs s a b e f =
@@ -133,7 +133,7 @@ waits_rest l c j f =
     (λ q. inr (none_left (is_wait_on j) (λ w. not (is_wait_by c w)) l.waiters q))
     (cases_Bool (is_waited_besides l c j))
 
--- a client's waits go; their files were marked where another client waits for them
+-- a client's waits go; their files were marked if another client waits for them
 pub kept_waits : (l : Locks) (c : ClientId) (g h d k : TouchedFiles) (ms : Moments) (cs : List ClientId) → IsSettled l g d ms cs → MarksAll (is_shared_wait l c) g h → MarksAll (is_shared_wait l c) d k → IsSettled (drop_waits l c) h k ms cs
 kept_waits l c g h d k ms cs s a b = kept_marked (is_shared_wait l c) l (drop_waits l c) g d h k ms cs s (waits_rest l c) a b
 
@@ -169,7 +169,7 @@ unfolding install_at
 all_added l m c life rows None e = cc
 all_added l m c life rows (Some conflict) e = cc
 
--- a client's rows are installed; their files were marked where somebody waits for them
+-- a client's rows are installed; their files were marked if somebody waits for them
 pub kept_installed : (l m : Locks) (c : ClientId) (life : Life) (rows : List Row) (g h d k : TouchedFiles) (ms : Moments) (cs : List ClientId) → IsSettled l g d ms cs → install l c life rows ≡ Ok m → MarksAll (λ j. is_file_of rows j && is_waited m j) g h
     → MarksAll (λ j. is_file_of rows j && is_waited m j) d k → IsSettled m h k ms cs
 unfolding install
@@ -178,7 +178,7 @@ kept_installed l m c life rows g h d k ms cs s z a b =
     (λ j. subst (λ (x : Locks). is_file_of rows j && is_waited x j ≡ false → Rests j l x) (all_added l m c life rows (first_conflict l c rows) z) (added_rests l c life rows j))
     a b
 
--- where all files are marked nothing is claimed
+-- if all files are marked, nothing is claimed
 pub full_settled : (m : Locks) (h k : TouchedFiles) (ms : Moments) (cs : List ClientId) → ((j : ℕ) → is_marked h j ≡ true) → ((j : ℕ) → is_marked k j ≡ true) → IsSettled m h k ms cs
 full_settled m h k ms cs a b = record {
   granted = λ j e. absurd (true≢false (sym (a j) ∙ e));

@@ -68,6 +68,20 @@ impl LockTable {
         self.parts.table.epoch()
     }
 
+    /// How many rows there are.
+    pub fn row_count(&self) -> usize
+        ensures { result ≡ length self.now.rows }
+    {
+        self.parts.table.row_count()
+    }
+
+    /// How many waits there are.
+    pub fn wait_count(&self) -> usize
+        ensures { result ≡ length self.now.waiters }
+    {
+        self.parts.table.wait_count()
+    }
+
     /// The grant number and the mode of the client's row of the file.
     pub fn row(&self, client: ClientId, ino: u32) -> Option<(GrantNo, Mode)>
         ensures { result ≡ told (locks.row_of self.now client ino) }

@@ -1,5 +1,5 @@
 -- Lists of operations by their places: which pass a test, and which are fit.
-use Rattle.std.proofs.Common.{◌≡◌, ℕ, zero, suc, ◌+◌, ◌-◌, ◌≤◌, Bool, true, false, cond, List, [], ◌∷◌, ◌++◌, if◌then◌else◌, length, map, take, Some, None, refl, sym, ap, ◌∙◌, arith, append_assoc, add-one, true≢false}
+use Rattle.std.proofs.Common.{◌≡◌, ℕ, zero, suc, ◌+◌, ◌-◌, ◌≤◌, Bool, true, false, cond, List, [], ◌∷◌, ◌++◌, if◌then◌else◌, length, map, take, Some, None, refl, sym, ap, ◌∙◌, arith, append_assoc, length-append, add-one, true≢false}
 use Rattle.std.specs.Prelude.{filter, remove, slice_get, ◌&&◌, ◌||◌, nat_lt, IfSome, Option}
 use Rattle.std.specs.Option.{option_copied, option_map_or, option_to_list}
 use Rattle.std.specs.List.{list_all, list_any}
@@ -67,6 +67,11 @@ picked_suc p (y ∷ ys) (suc i) = by (p y) (picked_suc p ys i)
 pub picked_more : {A : Type 0} (p : A → Bool) (xs : List A) (i : ℕ) →
     filter p (take i xs) ++ filter p (option_to_list (slice_get xs i)) ≡ filter p (take (i + 1) xs)
 picked_more p xs i = picked_suc p xs i ∙ ap (λ n. filter p (take n xs)) (sym (add-one i))
+
+-- how many a test picks, and one more
+pub counted_one_more : {A : Type 0} (p : A → Bool) (xs : List A) (i : ℕ) →
+    length (filter p (take i xs)) + length (filter p (option_to_list (slice_get xs i))) ≡ length (filter p (take (i + 1) xs))
+counted_one_more p xs i = sym (length-append (filter p (take i xs)) (filter p (option_to_list (slice_get xs i)))) ∙ ap length (picked_more p xs i)
 
 map_both : {A B : Type 0} (f : A → B) (xs ys : List A) → map f (xs ++ ys) ≡ map f xs ++ map f ys
 map_both f [] ys = refl

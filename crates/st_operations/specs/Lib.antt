@@ -1,1 +1,2 @@
 pub mod PendingOperations
+pub mod AwaitedGrants

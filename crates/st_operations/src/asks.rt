@@ -1,8 +1,10 @@
 // What is asked: its server and its file, and which kind it is.
 ghost use Rattle.std.specs.Prelude.{◌≡◌};
+ghost use Rattle.st_rules.specs.ClientPasses as passes;
 ghost use Rattle.st_rules.specs.ClientState as client_state;
+ghost use Rattle.st_operations.specs.AwaitedGrants.{is_served_under};
 
-use st_base::{NameAsk, PageNo, ServerId};
+use st_base::{Mode, NameAsk, PageNo, ServerId};
 use st_messages::Ask;
 use st_rules::{Operation, Stage};
 
@@ -80,6 +82,23 @@ pub fn is_cut_or_name(ask: &Ask) -> bool
         Ask::Name(_, _) => true,
         _ => false,
     }
+}
+
+/// The mode of the lock that an ask on a file needs: a read shared, and all else exclusive.
+fn need(ask: &Ask) -> Mode
+    ensures { result ≡ passes.need ask.now }
+{
+    match ask {
+        Ask::Read(_, _) => Mode::S,
+        _ => Mode::X,
+    }
+}
+
+/// Whether no lock is held, or one that the ask needs.
+pub fn is_served_under(mode: Mode, ask: &Ask) -> bool
+    ensures { result ≡ is_served_under mode ask.now }
+{
+    mode.number() == 0 || mode.covers(need(ask))
 }
 
 /// Whether a page of this file is written or patched.

@@ -10,7 +10,8 @@ mod stages;
 pub use asks::{file_of, is_cut_or_name, is_file, is_of, is_sent, is_sync, server_of};
 pub use operations::Operations;
 pub use picks::{
-    ChangesPage, CutOn, OfServer, OnFile, ReadsPage, RequestingOperation, SentOn, SyncOn, WorksOn,
+    Awaiting, ChangesPage, CutOn, OfServer, OnFile, ReadsPage, RequestingOperation, SentOn, SyncOn,
+    WorksOn,
 };
 pub use st_rules::{LockWait, Operation, Release, Stage};
 pub use st_tables::Test;

@@ -47,6 +47,13 @@ fn count_one(operation: &Operation) -> usize
     if is_sync(&operation.ask) { 1 } else { 0 }
 }
 
+/// One if it is true, and otherwise none.
+fn one_if(yes: bool) -> usize
+    ensures { result ≡ (if yes then 1 else 0) }
+{
+    if yes { 1 } else { 0 }
+}
+
 fn push_answer(op: u32, answer: &AppAnswer, out: &mut Vec<Output>) -> Result<(), AllocError>
     ensures told { OnOk result (out.new.items ≡ out.old.items ++ Output.Answer op answer.now ∷ []) }
     ensures grows { length out.old.items ≤ length out.new.items }
@@ -175,6 +182,28 @@ impl Operations {
         })
     }
 
+    /// One if the operation at a place passes the test, and otherwise none.
+    fn count_at<T: Test<Operation>>(&self, place: usize, test: &T) -> usize
+        ensures count { result ≡ length (filter (T.passes test.now) (option_to_list (slice_get self.now place))) }
+        ensures few { result ≤ 1 }
+    {
+        match self.get(place) {
+            None => 0,
+            Some(operation) => one_if(test.test(operation)),
+        }
+    }
+
+    /// How many pending operations pass the test.
+    pub fn count<T: Test<Operation>>(&self, test: &T) -> usize
+        ensures { result ≡ length (filter (T.passes test.now) self.now) }
+    {
+        let mut count = 0;
+        for i in 0..self.len() {
+            count += self.count_at(i, test);
+        }
+        count
+    }
+
     /// Whether a pending operation passes the test.
     pub fn any<T: Test<Operation>>(&self, test: &T) -> bool
         ensures { result ≡ list_any (T.passes test.now) self.now }
@@ -183,7 +212,7 @@ impl Operations {
     }
 
     /// Whether a pending operation may do something at a server: each of its own, or only its
-    /// alone. If only syncs may, and none is pending, it looks at no operation.
+    /// syncs. If only syncs may, and none is pending, it looks at no operation.
     pub fn any_may_act(&self, server: ServerId, all: bool) -> bool
         ensures { result ≡ list_any (may_act server all) self.now }
     {

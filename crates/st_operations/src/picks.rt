@@ -1,8 +1,9 @@
 // Tests of operations, as `answer_each` and `any` take them.
 use crate::asks::{
-    changes_page, is_asked, is_cut_or_name, is_of, is_on, is_sent, is_sync, reads_page,
+    changes_page, is_asked, is_cut_or_name, is_of, is_on, is_sent, is_served_under, is_sync,
+    reads_page,
 };
-use st_base::{PageNo, ServerId};
+use st_base::{Mode, PageNo, ServerId};
 use st_rules::Operation;
 use st_tables::Test;
 
@@ -141,6 +142,27 @@ impl Test<Operation> for CutOn {
     fn test(&self, operation: &Operation) -> bool {
         is_on(self.server, self.ino, operation)
             && (is_cut_or_name(&operation.ask) && !is_sent(operation))
+    }
+}
+
+/// The operations on this file, other than its syncs, that wait for a lock, or for what else they
+/// need with the one that is held in this mode.
+#[derive(Clone, Copy)]
+pub struct Awaiting {
+    pub server: ServerId,
+    pub ino: u32,
+    pub mode: Mode,
+}
+
+impl Test<Operation> for Awaiting {
+    ghost use Rattle.st_operations.specs.AwaitedGrants.{awaits};
+
+    ghost passes = { λ t o. awaits t.server t.ino t.mode o };
+
+    fn test(&self, operation: &Operation) -> bool {
+        is_on(self.server, self.ino, operation)
+            && (!is_sync(&operation.ask)
+                && (!is_sent(operation) && is_served_under(self.mode, &operation.ask)))
     }
 }
 

@@ -1,4 +1,4 @@
-// Changes of an operation's stage, each where the operation is.
+// Changes of an operation's stage, each made in place.
 use crate::asks::is_asked;
 use st_base::ServerId;
 use st_rules::{Operation, Stage};

@@ -1,4 +1,4 @@
--- What the operations of a map do to the list of its values, where each key follows from its value and keys differ.
+-- What the operations of a map do to the list of its values, if each key follows from its value and keys differ.
 use Rattle.st_lemmas.proofs.Words
 use Words.{◌≡◌, Bool, true, false, cond, if◌then◌else◌, List, [], ◌∷◌, ◌++◌, map, refl, sym, ap, ◌∙◌, ⊎_elim, find, filter, not, ◌&&◌, Some, None}
 use Words.{AllByRecursion, list_any, cases_Bool, or_from}
@@ -53,7 +53,7 @@ module _ {K X : Type 0} (key : X → K) where
   once E same tied [] d = refl
   once E same tied (x ∷ xs) d = λ i. not (none_same E same tied x xs d.0 i) && once E same tied xs d.1 i
 
-  -- other keys of the values differ, where these say the same
+  -- other keys of the values differ, if these say the same
   pub distinct_as : {L : Type 0} (E : K → K → Bool) (F : L → L → Bool) (g : X → L) → ((x y : X) → F (g x) (g y) ≡ E (key x) (key y)) → (xs : List X) → IsDistinct E (map key xs) → IsDistinct F (map g xs)
   unfolding IsDistinct
   distinct_as E F g tied [] d = tt
@@ -91,7 +91,7 @@ module _ {K X : Type 0} (key : X → K) where
       lookup_is_find [] h = refl
       lookup_is_find (e ∷ es) h = rw (same_test e es h) (ap (cond (p e.1) (Some e.1)) (lookup_is_find es (keyed_tail e es h)))
 
-      -- where no key passes, no value does
+      -- if no key passes, no value does
       pub none_found : (es : List (K × X)) → IsKeyed key es → AllByRecursion (λ k. t k ≡ false) (keys_of es) → filter (λ x. not (p x)) (values_of es) ≡ values_of es
       none_found [] h a = refl
       none_found (e ∷ es) h a =
@@ -141,7 +141,7 @@ module _ {K X : Type 0} (key : X → K) where
             rw (q, r) (ap (λ l. e.1 ∷ l) (set_is_map f v w es s l' (keyed_tail e es h) d.1)))
             (cases_Bool (t e.0))
 
-        -- where no key passes, nothing changes
+        -- if no key passes, nothing changes
         pub absent_is_map : (f : X → X) (es : List (K × X)) → lookup t es ≡ None → IsKeyed key es → values_of es ≡ map (λ x. if p x then f x else x) (values_of es)
         absent_is_map f [] l h = refl
         absent_is_map f (e ∷ es) l h =

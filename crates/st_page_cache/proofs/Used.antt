@@ -1,4 +1,4 @@
--- A page that is read shows the same bytes once it is used, where 256 pages may be clean.
+-- A page that is read shows the same bytes once it is used if 256 pages may be clean.
 use Rattle.st_lemmas.proofs.Words
 use Words.{◌≡◌, ℕ, ◌∷◌, take, refl, sym, ap, ◌∙◌, find, Option, Some, None, PageNo, CleanPage, DirtyPage}
 use Words.Tables.{found_at}

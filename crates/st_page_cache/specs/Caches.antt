@@ -58,7 +58,7 @@ shown d = (d.bytes.now, d.version, d.failed)
 abbrev pub facts_of : DirtyPage → List ℕ × ℕ × Option ℕ
 facts_of d = (d.bytes, d.version, d.failed)
 
--- a write answers as its definition; if it refuses and if memory runs out nothing changes
+-- a write answers as its definition says; if it refuses, or if memory runs out, nothing changes
 abbrev pub Writes : ServerPages → ServerPages → Result (Unit {0}) CacheRefusal → Result Pages WriteRefusal → Type 0
 Writes old new (Ok v) machine = record { written : machine ≡ Ok new.pages; server : new.server ≡ old.server }
 Writes old new (Err DirtyFull) machine = record { full : machine ≡ Err writing.DirtyFull; same : new ≡ old }

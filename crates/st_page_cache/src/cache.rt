@@ -62,6 +62,13 @@ impl PageCache {
         self.dirty.len()
     }
 
+    /// How many pages are clean.
+    pub fn clean_count(&self) -> usize
+        ensures { result ≡ length self.now.pages.clean }
+    {
+        self.clean.len()
+    }
+
     /// The dirty page at a place of the list.
     pub fn dirty_at(&self, i: usize) -> &DirtyPage
         requires { i < length self.now.pages.dirty }

@@ -85,7 +85,7 @@ impl CleanPages {
     pub fn touch(&mut self, ino: u32, page: PageNo)
         ensures { self.new ≡ touched (find (pages.is_clean_of ino page) self.old) self.old }
     {
-        // If it is not there nothing changes. `len` is called for its clauses `few` and `once`.
+        // If it is not there, nothing changes. `len` is called for its clauses `few` and `once`.
         let _found = self.pages.promote(&key(ino, page));
         let _len = self.pages.len();
     }

@@ -2,7 +2,7 @@ ghost use Rattle.std.specs.Prelude.{◌≡◌};
 
 use st_base::PageNo;
 
-/// By what a page is found: its file and its number.
+/// What a page is found by: its file and its number.
 #[derive(Clone, Copy, Debug, PartialEq, Eq, PartialOrd, Ord, Hash)]
 pub struct PageKey {
     pub ino: u32,

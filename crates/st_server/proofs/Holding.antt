@@ -30,7 +30,7 @@ some_gone : {A : Type 0} (p q : A → Bool) (y x : A) (ys : List A) (b : Bool) �
 some_gone p q y x ys true e f k = let same : y ≡ x = cc in first_gone q y ys (q y) (ap q same ∙ f)
 some_gone p q y x ys false e f k = later_gone q y ys (q y) (k e)
 
--- a filter leaves fewer where it takes away what was found
+-- a filter leaves fewer if it takes away what was found
 pub length_gone : {A : Type 0} (p q : A → Bool) (xs : List A) (x : A) → find p xs ≡ Some x → q x ≡ false → length (filter q xs) + 1 ≤ length xs
 length_gone p q [] x e f = cc
 length_gone p q (y ∷ ys) x e f = some_gone p q y x ys (p y) e f (λ g. length_gone p q ys x g f)

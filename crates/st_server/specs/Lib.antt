@@ -6,3 +6,4 @@ pub mod Invariants
 pub mod Answers
 pub mod RuleConditions
 pub mod Restart
+pub mod Counts

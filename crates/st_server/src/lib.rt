@@ -2,6 +2,7 @@
 //! `docs/PROTOCOL.md` has the rules.
 #![tactic(auto)]
 
+mod counts;
 mod greetings;
 mod lock_requests;
 mod name_requests;
@@ -17,6 +18,7 @@ mod step;
 mod suspicion;
 mod turn;
 
+pub use counts::ServerCounts;
 pub use node::{ServerNode, answers_are_named};
 pub use st_messages::{Note, Output, Outputs, StepFault};
 pub use st_rules::ServerInput;

@@ -7,6 +7,7 @@ ghost use Rattle.st_messages.specs.Ranges.{fits};
 ghost use Rattle.st_messages.specs.declared.output.StepFault.TheVariants.{Memory};
 ghost use Rattle.st_rules.specs.declared.input.ServerInput.TheVariants.{Control};
 ghost use Rattle.st_server.specs.Answers.{AnswersAreNamed};
+ghost use Rattle.st_server.specs.Counts.{counts_of};
 ghost use Rattle.st_server.specs.Parts.{stable_of};
 ghost use Rattle.st_server.specs.RuleConditions.{comes_fit};
 ghost use Rattle.st_server.specs.Restart.{IsStable, crashed_node};
@@ -14,6 +15,7 @@ ghost use Rattle.st_server.specs.Room.{HasRoom};
 ghost use Rattle.st_server.specs.Invariants.{IsSound, is_sent};
 ghost use Rattle.st_server.specs.Steps.{Runs, Steps};
 
+use crate::counts::ServerCounts;
 use crate::stable::ServerStable;
 use crate::turn::ServerTurn;
 use st_base::{Config, Epoch, ServerId, Stamp};
@@ -103,6 +105,13 @@ impl ServerNode {
         ensures { stable_of result.now ≡ self.now.state.stable }
     {
         &self.machine.stable
+    }
+
+    /// How much the server has.
+    pub fn counts(&self) -> ServerCounts
+        ensures { result ≡ counts_of self.now.state }
+    {
+        self.machine.counts()
     }
 
     /// Whether a step may be taken, as far as the counters go.

@@ -7,7 +7,7 @@ use Rattle.st_rules.specs.ServerInvariants.{are_once}
 use Rattle.st_sessions.proofs.Once.{has_key, same_key}
 use Rattle.st_tables.proofs.FirstPlaces.{place_some, missing}
 
--- the row is changed where it has this key
+-- the row is changed if it has this key
 abbrev pub changed : {A : Type 0} → (A → ℕ) → ℕ → (A → A) → A → A
 changed key n f x = cond (key x == n) (f x) x
 

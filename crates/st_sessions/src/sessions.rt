@@ -1,4 +1,4 @@
-ghost use Rattle.std.specs.Prelude.{◌≡◌, true, IfOk, OnOk, OnErr};
+ghost use Rattle.std.specs.Prelude.{◌≡◌, true, IfOk, OnOk, OnErr, length};
 ghost use Rattle.st_rules.specs.Sessions as sessions;
 ghost use Rattle.st_rules.specs.Server.{serves_at};
 ghost use Rattle.st_rules.specs.ServerInvariants.{are_once, same_session};
@@ -163,6 +163,13 @@ impl Sessions {
     {
         let session = self.rows.get(client)?;
         Some(session.life)
+    }
+
+    /// How many clients have a session, living or ended.
+    pub fn len(&self) -> usize
+        ensures { result ≡ length self.now.rows }
+    {
+        self.rows.len()
     }
 
     /// Whether the client has a living session of this life, or a session of a higher one. It does

@@ -44,6 +44,13 @@ impl SessionTable {
         }
     }
 
+    /// How many sessions there are.
+    pub fn len(&self) -> usize
+        ensures { result ≡ length self.now }
+    {
+        self.rows.len()
+    }
+
     /// Where the client's session is, if it has one.
     pub fn place(&self, client: ClientId) -> Option<usize>
         ensures { result ≡ position (sessions.is_session_of client) self.now }
