@@ -122,7 +122,7 @@ module _ (B : ServerId → ℕ → ℕ → ℕ → Type 0) (G : ServerId → ℕ
   F : Fact
   F = AsksStand B G
 
-  -- where nothing is outstanding
+  -- if nothing is outstanding
   idle : (server : ServerId) (life epoch next : ℕ) (due : Bool) → B server life epoch next → (due ≡ true → next ≡ 1) →
       AsksStand B G server life epoch (record { next = next; asked = None }) None due
   idle server life epoch next due b d =

@@ -1,4 +1,4 @@
--- What the requests that a client sends at the end of a step leave of its session. The last pass only asks: what it asks anew is a reassertion where one is
+-- What the requests that a client sends at the end of a step leave of its session. The last pass only asks: what it asks anew is a reassertion if one is
 -- due, and it is the only holder of what it removes.
 use Rattle.st_lemmas.proofs.Words
 use Words.{◌≡◌, ℕ, ◌+◌, Bool, Option, Some, None, sym, ap, ◌∙◌, subst, ◌⊎◌, inl, inr, GrantNo, ServerId, Stamp, Body, Request}

@@ -59,7 +59,7 @@ module _ (past : List Step) (t : Traced) (d : CutsHold past t) (r : RepliesHold 
   still : (v : World) → v.clients ≡ t.world.clients → v.servers ≡ t.world.servers → AllAsked G v
   still v cs ss = carried v cs (served_same v ss)
 
-  -- A server at its place is another one.
+  -- A server at its place is replaced.
   placed : (s : ServerId) (old new : ServerNode) (v : World) → node_of t.world s ≡ Some old → v.clients ≡ t.world.clients → v.servers ≡ with_numbered s.0 new t.world.servers →
       ((c : ClientId) (life epoch n : ℕ) → ServedTo c old life epoch n → ServedTo c new life epoch n) → AllAsked G v
   placed s old new v at cs ss k = carried v cs (λ c server life epoch n h node q number pos is. it c server life epoch n h node number pos is (set_cases t.world.servers s.0 server.0 old new node at (ap (λ xs. numbered xs server.0) (sym ss) ∙ q)))

@@ -1,4 +1,4 @@
--- Outstanding reads where a client that runs takes an input.
+-- Outstanding reads when a client that runs takes an input.
 use Rattle.st_lemmas.proofs.Words
 use Words.{◌≡◌, ◌≢◌, ℕ, ◌≤◌, ◌⊎◌, true, ◌&&◌, ◌==◌, not, List, [], ◌∷◌, ◌++◌, Option, Some, None, Ok, Err, refl, sym, ap, ◌∙◌, subst, inl, inr, arith}
 use Words.{if◌then◌else◌, length, map, eq-eqb, eqb-true, Command, ClientId, FileId, PageNo, ServerId, Stamp, Ask, Event, PageCommand, Block}

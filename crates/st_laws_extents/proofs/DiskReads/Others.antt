@@ -85,7 +85,7 @@ content_ended f p cs (l ∷ ls) es s =
     let a = alike_drop 1 _ _ f p es s in
     content_ended f p cs ls (ev.log_ended cs l es) (alike_settled f p es (ev.log_ended cs l es) a s) ∙ alike_content (filled 0) f p es (ev.log_ended cs l es) a
 
--- where the page of each outstanding read is settled
+-- if the page of each outstanding read is settled
 abbrev pub ReadsSettled : World → Type 0
 ReadsSettled w =
     (c : ℕ) (site : WorldClient) → Running w c site → (a : Association) → Has a site.node.state.associations → Lasts site.node.state.config.lease (clock_of w (nodes.Client (client c))).0 a.session → (pc : PageCommand) → Has pc a.store.commands → pc.kind ≡ io.Read →
@@ -97,7 +97,7 @@ module _ (asks : ℕ → ℕ → Option Ask) (w : World) (copies : CopiesHold as
       let s : StandsAt (client c) w.log a = (while_at _ _ (client c) w.log site.node.state.associations a ((copies c site run.there).runs run.runs).copies i).lasting l in
       (s.pages pc.ino pc.page).reading (being_read a pc m r)
 
-  -- where the page of each outstanding read lies as it did, and has the content that it had
+  -- if the page of each outstanding read lies as it did, and has the content that it had
   record FitsPage (v : World) (es : List LogEntry) (f : FileId) (p : PageNo) : Type 0 where
     mapped : (e : Extent) → mapped_in w f p ≡ Some e → mapped_in v f p ≡ Some e
     same : content es f p ≡ content w.log f p

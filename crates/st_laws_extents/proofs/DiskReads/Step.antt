@@ -81,7 +81,7 @@ ends_kept now number ok t _ (Hardens pc v e o k w) =
     gone : (ino : ℕ) (p : PageNo) (o : Option DirtyPage) → pages.dirty_of t.here.store.pages ino p ≡ None → pages.dirty_of (pages.harden_at t.here.store.pages o) ino p ≡ None
     gone ino p None z = z
     gone ino p (Some d) z = none_fewer (pages.is_dirty_of ino p) _ t.here.store.pages.dirty z
-ends_kept now number ok t _ (Fails pc v e o k) =
+ends_kept now number ok t _ (Fails pc v e o k w) =
     record {
       low = omega arith;
       server = refl;

@@ -35,7 +35,7 @@ use Rattle.st_laws_extents.proofs.ExtentReplies.Step.{step_tells}
 replies_then : (c : ℕ) (a b : Association) (x y : ClientSession) (q p : Request) (m : Message) (ino : ℕ) (rows : List ExtentRow) → b.server ≡ a.server → b.life.0 ≡ a.life.0 → y.epoch.0 ≡ x.epoch.0 → p.number ≡ q.number → RepliesTo c a x q m ino rows → RepliesTo c b y p m ino rows
 replies_then c a b x y q p m ino rows s l e n r = record { from = r.from ∙ ap server_node (sym s); to = r.to; of_life = r.of_life ∙ sym l; of_epoch = r.of_epoch ∙ sym e; under = r.under ∙ sym n; body = r.body }
 
--- Where no server takes a step.
+-- If no server takes a step.
 module _ (w v : World) (stays : Stays w v) (right : AskedRight w) where
   still : RequestsGo w v → AskedRight v
   still go c site a x q z p at = by (go c site a x q z)
@@ -61,7 +61,7 @@ module _ (w v : World) (stays : Stays w v) (right : AskedRight w) where
           told : (ino : ℕ) (rows : List ExtentRow) → TellsRows o.by.server n.0.state.stable.extents o.request.body ino rows → TellsRows a.server p.state.stable.extents q.body ino rows
           told ino rows y = subst (λ e. TellsRows a.server e q.body ino rows) (sym n.2.extents) (subst (λ s. TellsRows s n.0.state.stable.extents q.body ino rows) o.server (subst (λ b. TellsRows o.by.server n.0.state.stable.extents b ino rows) o.body y))
 
--- Where a server does.
+-- If a server does.
 module _ (k : Config) (count : ℕ) (past : List Step) (t : Traced) (h : cutters.Hold k count past t) (v : World) (y : ServerSteps t.world v) (right : AskedRight t.world) where
   abbrev u : ServerTurn
   u = server_step y.node.state y.now y.input

@@ -21,7 +21,7 @@ use Rattle.st_laws_extents.specs.ExtentReplies.Steps.{AsksExtents, ChangesExtent
 use Rattle.st_trace.specs.Server.Edits as edits
 use Rattle.st_trace.proofs.Server.Allocating.{allocated_pages_are_placed}
 
--- other files keep their extents where pages are placed
+-- other files keep their extents when pages are placed
 others_placed : (f : FileId) (ps : List PageNo) (x : Extents) (g : FileId) (p : PageNo) → g ≢ f →
     extents.extent_of (extents.place_pages f ps x) g p ≡ extents.extent_of x g p
 unfolding extents.place_pages extents.place_on
@@ -37,7 +37,7 @@ others_placed f (q ∷ ps) x g p n = others_placed f ps (extents.place_on x f q 
     go (b ∷ bs) = find_before (extents.is_extent_of g p) (extents.new_extent x f q b) x.rows
         (away b (extents.is_extent_of g p (extents.new_extent x f q b)) refl)
 
--- and where pages are released
+-- and when pages are released
 others_released : (f : FileId) (q : PageNo) (x : Extents) (g : FileId) (p : PageNo) → g ≢ f →
     extents.extent_of (extents.release_from x f q) g p ≡ extents.extent_of x g p
 unfolding extents.release_from

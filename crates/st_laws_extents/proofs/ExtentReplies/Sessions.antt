@@ -1,4 +1,4 @@
--- Where a session keeps a reply of extents after a change of the sessions, it was there before.
+-- If a session keeps a reply of extents after a change of the sessions, it was there before.
 use Rattle.st_lemmas.proofs.Words
 use Words.{◌≡◌, ℕ, ◌⊎◌, Bool, true, false, List, ◌==◌, refl, sym, ap, ◌∙◌, subst, inl, inr, if◌then◌else◌, Option, Some, None, option_map, eq-eqb, eqb-true}
 use Words.{ClientId, Life, ExtentRow, Body, Session, SessionState}

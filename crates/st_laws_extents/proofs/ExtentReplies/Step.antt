@@ -48,7 +48,7 @@ module _ (x : ServerState) (now : Stamp) (i : ServerInput) where
         next = s.next;
       }
 
-  -- where a request is served anew
+  -- when a request is served anew
   module _ (u : ServerTurn) (a : walk.Anew Before x.stable.extents x now i u) where
     abbrev m : Message
     m = a.message

@@ -77,7 +77,7 @@ module _ (k : Config) (count : ℕ) (past : List Step) (t : Traced) (e : Event) 
       gifts k count sc.world (followed k count past t e sc ranges h taken).after c s i n
   gifts_go_on c s i n = gifts_stay k count t.world sc.world h.all (followed k count past t e sc ranges h taken) c s i n
 
-  -- Where no client crashes.
+  -- If no client crashes.
   on : ((c : ClientId) → e ≡ events.Crash (nodes.Client c) → ⊥) → FrozenFilesUncut k count sc.world (followed k count past t e sc ranges h taken).after
   unfolding w
   on never = (subst (λ (x : WorldTurn). OpenTracked (UncutLife k count sc.world (followed k count past t e sc ranges h taken).after sc.world) x.world) (sym (step_happens t.world e sc taken).1) was).open_

@@ -1,4 +1,4 @@
--- A cut finds no write of the life that asks for it, where a crash ended that life.
+-- A cut finds no write of the life that asks for it if a crash ended that life.
 use Rattle.st_lemmas.proofs.Words
 use Words.{◌≡◌, ℕ, true, List, Some, ap, ◌∙◌, subst, FileId, PageNo, BlockAt, Tag, Event, IssuedCommand, LeaseLife}
 use Words.Events.{WorldTurn}

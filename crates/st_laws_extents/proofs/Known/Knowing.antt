@@ -44,7 +44,7 @@ granted_keeps z ino g mode j h = go (locks.is_above_seen z.locks ino g) (locks.h
     go true false = h
     go false place = h
 
--- The locks of the files of which something is known stay, where a session asks nothing.
+-- The locks of the files of which something is known stay if a session asks nothing.
 step_keeps : (xs : List KnownExtent) (c d : locks.LockCache) → LocksStep xs c d → (x : KnownExtent) → Has x xs → HasLock c.rows x.ino → HasLock d.rows x.ino
 step_keeps xs c _ (LocksStay _) x i h = h
 step_keeps xs c _ (LocksReduced _ ino g to e n) x i h = go (reduce_keeps c ino x.ino h (g, to) e)
@@ -183,7 +183,7 @@ module _ (R : Fact) where
   pub kept_by_passes : (now : Stamp) (tick : Bool) (t : Turn) → K t (cp.passes now tick t)
   kept_by_passes now tick t = changes_passing t.operations KeepsOrAsks now t (cp.passes now tick t) (passes_keep_or_ask now tick t)
 
-  -- Each change where no message is received, and such changes: what is known stays, and no write is submitted.
+  -- Each change when no message is received, and such changes: what is known stays, and no write is submitted.
   abbrev Same : Turn → Turn → Type 0
   Same t u = ((o : Option ClientSession) (xs : List KnownExtent) → Fine t.here.server o xs t.out → Fine u.here.server o xs u.out) ×
       (t.here.session ≡ u.here.session) × (t.here.store.extents ≡ u.here.store.extents)
@@ -220,7 +220,7 @@ module _ (R : Fact) where
   ends_fine number ok t _ Unknown h = h
   ends_fine number ok t _ (Passes c e o) h = h
   ends_fine number ok t _ (Hardens c v e o k w) h = h
-  ends_fine number ok t _ (Fails c v e o k) h = h
+  ends_fine number ok t _ (Fails c v e o k w) h = h
 
   finished_fine : (now : Stamp) (number : ℕ) (ok : Bool) (t u : Turn) → Finished now number ok t u → K t u
   finished_fine now number ok t u f h = at_same f.mid u (changes_idle now f.mid u f.calm) (ends_fine number ok t f.mid f.ends h)

@@ -1,4 +1,4 @@
--- Locks that stay where others change.
+-- Locks that stay when others change.
 use Rattle.st_lemmas.proofs.Words
 use Words.{◌≡◌, ◌⊎◌, ℕ, Bool, true, false, not, ◌==◌, List, Option, Some, None, refl, sym, ap, ◌∙◌, subst, inl, inr, if◌then◌else◌, nat_le, eqb-true, GrantNo}
 use Words.{Mode, DemandedFile, HeldLock}

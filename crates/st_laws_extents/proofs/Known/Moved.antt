@@ -13,7 +13,7 @@ use Words.Tests.{find_filtered, find_longer}
 use Words.Truth.{file_is}
 use Rattle.st_laws_pages.specs.Disks.World.{Cuts, ExtentsMove, Maps, OneCut, Stays}
 
--- pages that are mapped stay mapped where others are placed
+-- pages that are mapped stay mapped when others are placed
 placed : (f : FileId) (ps : List PageNo) (x : Extents) (g : FileId) (p : PageNo) (e : Extent) → extents.extent_of x g p ≡ Some e → extents.extent_of (extents.place_pages f ps x) g p ≡ Some e
 unfolding extents.place_pages extents.place_on
 placed f [] x g p e h = h

@@ -52,7 +52,7 @@ use Rattle.st_laws_extents.proofs.Known.Step.{Fine, Told, lost_knows, step_fine}
 pub knows_by : (R S : Fact) (a : Association) → ((ino : ℕ) (p : PageNo) (m : MappedBlock) → Locked a.session ino → R a.server ino p m → S a.server ino p m) → Knows R a → Knows S a
 knows_by R S a f h e i = let z = h e i in record { locked = z.locked; is = λ m q. f e.ino e.page m z.locked (z.is m q) }
 
--- where the servers are the same
+-- if the servers are the same
 pub lies_same : (w v : World) → v.servers ≡ w.servers → (server : ServerId) (ino : ℕ) (p : PageNo) (m : MappedBlock) → lies w server ino p m → lies v server ino p m
 lies_same w v e server ino p m = subst (λ ns. LiesAs (mapped_at (file_at server ino) p (numbered ns server.0)) m) (sym e)
 
@@ -71,7 +71,7 @@ carried w v cs ss ts h c site at =
 pub still : (w v : World) → v.clients ≡ w.clients → v.servers ≡ w.servers → v.clocks ≡ w.clocks → AllKnow w → AllKnow v
 still w v cs ss ts = carried w v cs ss (λ c. let z = ap (λ xs. (clock_in xs c).0) ts in omega (arith, z))
 
--- A client of a world is another one.
+-- A client of a world is replaced.
 placed : (w v : World) (c : ClientId) (old new : WorldClient) → site_of w c ≡ Some old → v.clients ≡ with_numbered c.0 new w.clients → v.servers ≡ w.servers → v.clocks ≡ w.clocks → SiteKnows v c new → AllKnow w → AllKnow v
 placed w v c old new there cs ss ts n h d site at = go (set_cases w.clients c.0 d.0 old new site there (ap (λ xs. numbered xs d.0) (sym cs) ∙ at))
   where
@@ -156,7 +156,7 @@ module _ (w : World) (sc : WorldTurn) (x : Taking) (t : Takes (counted w) sc x) 
       let is : sc.world ≡ x.world = ap (λ (z : WorldTurn). z.world) t.is ∙ ap (λ b. (ev.client_took x.world x.client x.site (if b then Ok (cl.node_turn x.site.node (turn_of x)) else Err Crashed)).world) stops in
       still w sc.world (ap (λ (z : World). z.clients) is ∙ t.clients) (ap (λ (z : World). z.servers) is ∙ t.servers) (ap (λ (z : World). z.clocks) is ∙ t.clocks) h
 
--- Locks of files of which something is known have a mode, where their servers are there.
+-- Locks of files of which something is known have a mode if their servers are there.
 abbrev pub ModesHeld : World → Type 0
 ModesHeld w = (d : ℕ) (site : WorldClient) → site_of w (client d) ≡ Some site → (a : Association) → Has a site.node.state.associations → There w a.server → (ino : ℕ) → Locked a.session ino → 1 ≤ (held_in a.session ino).mode
 

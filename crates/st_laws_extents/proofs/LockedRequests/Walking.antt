@@ -71,7 +71,7 @@ module _ (U : Free) (W : Before) where
       subst (λ x. Stand U W server life x.0 r.requests r.locks) (sym e)
       (subst (λ x. Stand U W server life s.epoch.0 x r.locks) (sym q) (locks_later U W server life s.epoch.0 s.requests s.locks r.locks (f h.seen) h))
 
-  -- where nothing is outstanding
+  -- if nothing is outstanding
   idle : (server : ServerId) (life epoch next : ℕ) (c : locks.LockCache) → ((e n : ℕ) → epoch < e → 1 ≤ n → U server life e n) →
       ((n : ℕ) → next ≤ n → U server life epoch n) → LockSeen c → Stand U W server life epoch (record { next = next; asked = None }) c
   idle server life epoch next c l f h = record { later = l; next = f; seen = h; asked = λ q e. no_request q e }

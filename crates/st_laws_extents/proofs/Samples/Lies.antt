@@ -1,4 +1,4 @@
--- Where a client that runs takes an input, each read that it submits goes to where the server has the page.
+-- When a client that runs takes an input, each read that it submits goes to where the server has the page.
 use Rattle.st_lemmas.proofs.Words
 use Words.{◌≡◌, ℕ, ◌<◌, ◌==◌, true, List, [], Option, Some, None, refl, sym, ap, ◌∙◌, subst, eqb-true, PageNo, ClientInput, KnownExtent, MappedBlock}
 use Words.{PageCommand}

@@ -1,4 +1,4 @@
--- The reads that a whole step of a client submits: where they go, the step knows that their pages lie.
+-- The reads that a whole step of a client submits: the step knows that their pages lie where they go.
 use Rattle.st_lemmas.proofs.Words
 use Words.{◌≡◌, ℕ, ◌<◌, ◌⊎◌, Bool, true, false, List, [], ◌∷◌, refl, sym, ◌∙◌, subst, inl, inr, arith, BlockAt, Command, ClientId, Stamp, AppAnswer, Output}
 use Words.{ClientInput, PageCommand}
@@ -36,7 +36,7 @@ unfolding cl.hardened pages.harden pages.harden_at pages.harden_page pages.fail 
 ends_calm now number ok t _ Unknown = record { more = []; out = nothing_after t.out; none = none_said; next = refl; fewer = λ pc i. i }
 ends_calm now number ok t _ (Passes pc e o) = record { more = []; out = nothing_after t.out; none = none_said; next = refl; fewer = λ c i. (has_filter _ t.here.store.commands c i).0 }
 ends_calm now number ok t _ (Hardens pc v e o k w) = record { more = []; out = nothing_after t.out; none = none_said; next = refl; fewer = λ c i. (has_filter _ t.here.store.commands c i).0 }
-ends_calm now number ok t _ (Fails pc v e o k) = record { more = []; out = nothing_after t.out; none = none_said; next = refl; fewer = λ c i. (has_filter _ t.here.store.commands c i).0 }
+ends_calm now number ok t _ (Fails pc v e o k w) = record { more = []; out = nothing_after t.out; none = none_said; next = refl; fewer = λ c i. (has_filter _ t.here.store.commands c i).0 }
 
 finished_calm : (now : Stamp) (number : ℕ) (ok : Bool) (t u : Turn) → Finished now number ok t u → Calm now t u
 finished_calm now number ok t u f = both_of now t f.mid u (ends_calm now number ok t f.mid f.ends) (changes_calm false now f.mid u f.calm)

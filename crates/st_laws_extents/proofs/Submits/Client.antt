@@ -1,4 +1,4 @@
--- Where a client that runs takes an input: each write that it submits is right, and after the latest entries of dirty pages nothing of the page counts.
+-- When a client that runs takes an input: each write that it submits is right, and after the latest entries of dirty pages nothing of the page counts.
 use Rattle.st_lemmas.proofs.Words
 use Words.{◌≡◌, ◌≢◌, ℕ, ◌⊎◌, Bool, true, false, ◌&&◌, List, [], ◌∷◌, ◌++◌, Option, Some, None, Ok, Err, refl, sym, ap, ◌∙◌, subst, inl, inr, arith}
 use Words.{if◌then◌else◌, length, eqb-true, ne_eqb, BlockAt, Tag, ClientId, FileId, Life, PageNo, ServerId, Stamp, Ask, Event, Note, Output}

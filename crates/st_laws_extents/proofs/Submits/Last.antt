@@ -149,4 +149,4 @@ ends_last c number ok t _ (Hardens pc v e o k w) es h = λ ino p d i. let z = ol
     old : (ino : ℕ) (p : PageNo) (d : DirtyPage) (o : Option DirtyPage) → pages.dirty_of (pages.harden_at t.here.store.pages o) ino p ≡ Some d → (x : DirtyPage) × (pages.dirty_of t.here.store.pages ino p ≡ Some x)
     old ino p d None i = (d, i)
     old ino p d (Some x) i = found_fewer (pages.is_dirty_of ino p) _ t.here.store.pages.dirty d i
-ends_last c number ok t _ (Fails pc v e o k) es h = λ ino p d i. let z = failed_found pc.ino pc.page pc.number ino p t.here.store.pages.dirty d i in h ino p z.0 z.1
+ends_last c number ok t _ (Fails pc v e o k w) es h = λ ino p d i. let z = failed_found pc.ino pc.page pc.number ino p t.here.store.pages.dirty d i in h ino p z.0 z.1

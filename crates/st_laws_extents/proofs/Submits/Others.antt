@@ -46,7 +46,7 @@ use Rattle.st_laws_reads.proofs.AllClients.Alone.{while_at}
 use Rattle.st_laws_extents.specs.Submits.Submits.{LastIn}
 use Rattle.st_laws_extents.proofs.Submits.Last.{last_other}
 
--- Folds over logs of the same owners and changes, where no more entries count.
+-- Folds over logs of the same owners and changes, if no more entries count.
 pub data Fewer : List LogEntry → List LogEntry → Type 0 where
   NoneLeft : Fewer [] []
   OneLeft : (e f : LogEntry) (es fs : List LogEntry) → f.of ≡ e.of → f.change ≡ e.change → (log.counts e.fate ≡ false → log.counts f.fate ≡ false) → Fewer es fs → Fewer (e ∷ es) (f ∷ fs)

@@ -1,4 +1,4 @@
--- Each write that a client's step submits is right, where its bytes are the page's and it goes to where the server has the page.
+-- Each write that a client's step submits is right if its bytes are the page's and it goes to where the server has the page.
 use Rattle.st_lemmas.proofs.Words
 use Words.{◌≡◌, ℕ, ◌+◌, ◌%◌, true, List, [], ◌∷◌, ◌++◌, Option, Some, None, refl, sym, ap, ◌∙◌, subst, inl, inr, arith, length, pred, BlockAt, Command, Tag}
 use Words.{ClientId, FileId, Life, PageNo, ServerId, Ask, Note, Output, ClientInput, LogEntry, LogOwner, IssuedCommand}

@@ -254,7 +254,7 @@ run promise pick k count (e ∷ es) all past t s o d d2 = go (world_step t.world
         let z = next past k count t s e sc (and_true (is_event count e) (list_all (is_event count) es) all).0 q o.0 d.0 d2.0 in
         (pick k count past t e sc z.0 z.1, f (past ++ step t e sc ∷ []) (traced_after e t sc) z.1 o.1 d.1 d2.1)
 
--- The same, where what is left of an input follows from what is owed at the step.
+-- The same, if what is left of an input follows from what is owed at the step.
 module _ (past : List Step) (k : Config) (count : ℕ) (t : Traced) (s : PagesStand k count past t) (e : Event) (sc : WorldTurn) (took : world_step t.world e ≡ Ok sc) where
   of_taken : (o : Option Taking) → taken (counted t.world) e ≡ o → TakenRest o → TakenLeft o
   of_taken None q r = tt

@@ -1,4 +1,4 @@
--- Where a client takes an input: the world in which it does, and what it leaves.
+-- When a client takes an input: the world in which it does, and what it leaves.
 use Rattle.st_lemmas.proofs.Words
 use Words.{◌≡◌, ◌≢◌, ℕ, zero, suc, ◌+◌, ◌⊎◌, Bool, true, false, Option, Some, None, Ok, Err, refl, sym, ap, ◌∙◌, subst, inl, inr, if◌then◌else◌, length}
 use Words.{ClientId, NodeId, Event, Message, ClientInput, DiskCommand, Report, IssuedCommand, SentMessage}

@@ -200,7 +200,7 @@ module _ (size : ℕ) (c : ClientId) (before : ClientState) (sc : WorldTurn) (si
   silent number ok t _ Unknown = (refl, refl, refl)
   silent number ok t _ (Passes pc e o) = (refl, refl, refl)
   silent number ok t _ (Hardens pc v e o k w) = (refl, refl, refl)
-  silent number ok t _ (Fails pc v e o k) = (refl, refl, refl)
+  silent number ok t _ (Fails pc v e o k w) = (refl, refl, refl)
 
   ends_in : (number : ℕ) (ok : Bool) (t u : Turn) → Ends number ok t u → (others : List Association) → In t others → In u others
   ends_in number ok t u e others r =

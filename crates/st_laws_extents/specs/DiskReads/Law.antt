@@ -1,4 +1,4 @@
--- Reads return the last writes, and the pages hold, where clients know where pages lie, and what they submit goes there.
+-- Reads return the last writes, and the pages hold, if clients know where pages lie, and what they submit goes there.
 use Rattle.std.specs.Prelude.{[], Option, Some, None}
 use Rattle.st_rules.specs.declared.client.ClientInput.{ClientInput}
 use Rattle.st_rules.specs.declared.client.ClientInput.TheVariants as inputs

@@ -28,7 +28,7 @@ use Rattle.st_laws_reads.specs.Copies.World.{Taking, turn_of}
 use Rattle.st_laws_reads.specs.AllClients.Law.{Running}
 use Rattle.st_laws_extents.specs.DiskReads.OutstandingReads.{ReadsClean}
 
--- A command reads a page where its server has it; and where it had its effect, it found the content of the page.
+-- A command reads a page where its server has it; and if it had its effect, it found the content of the page.
 pub record ReadRight (w : World) (es : List LogEntry) (a : Association) (pc : PageCommand) (d : DiskCommand) : Type 0 where
   pub extent : Extent
   pub is : mapped_in w (file_at a pc.ino) pc.page ≡ Some extent
@@ -41,7 +41,7 @@ EachRight w es c site a pc =
     (k : ℕ) (y : IssuedCommand) (d : DiskCommand) → numbered w.commands k ≡ Some y → IsIts (client c) site.starts pc.number y →
     disks.command_at w.disks.commands k ≡ Some d → ReadRight w es a pc d
 
--- What holds of all clients that run: outstanding reads are of pages that are not dirty, and mapped; and where a lease lasts they are right.
+-- What holds of all clients that run: outstanding reads are of pages that are not dirty, and mapped; and if a lease lasts, they are right.
 pub record ReadsHold (w : World) (es : List LogEntry) : Type 0 where
   pub clean : (c : ℕ) (site : WorldClient) → Running w c site → (a : Association) → Has a site.node.state.associations → ReadsClean a.store
   pub right : (c : ℕ) (site : WorldClient) → Running w c site → (a : Association) → Has a site.node.state.associations →

@@ -21,7 +21,7 @@ use Rattle.st_rules.specs.Sessions.{Sessions, session_of}
 use Rattle.st_lemmas.specs.Lists.{Has}
 use Rattle.st_laws_reads.specs.Copies.Copies.{file_at}
 
--- a server has a page so as a row tells
+-- a server has a page as a row tells
 pub record RowRight (x : Extents) (s : ServerId) (ino : ℕ) (r : ExtentRow) : Type 0 where
   pub extent : Extent
   pub is : extent_of x (file_at s ino) r.page ≡ Some extent

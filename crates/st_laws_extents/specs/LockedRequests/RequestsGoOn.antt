@@ -24,7 +24,7 @@ Under c (bodies.Map ino g page) = g.0 ≤ (seen_of c ino).0
 Under c (bodies.Allocate ino g page count) = g.0 ≤ (seen_of c ino).0
 Under c body = Unit {0}
 
--- a request goes on: its grant was seen, and where its lock is held, it was outstanding so, or nothing was reported under its number
+-- a request goes on: its grant was seen, and if its lock is held, it was outstanding so, or nothing was reported under its number
 pub record RequestGoes (U : Free) (W : Before) (server : ServerId) (life epoch : ℕ) (c : LockCache) (number : ℕ) (body : Body) : Type 0 where
   pub under : Under c body
   pub was : is_current c body ≡ true → W server life epoch number body ⊎ U server life epoch number

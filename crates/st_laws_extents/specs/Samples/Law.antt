@@ -1,4 +1,4 @@
--- Reads return the last writes, and the pages hold, where replies tell where the server has its pages.
+-- Reads return the last writes, and the pages hold, if replies tell where the server has its pages.
 use Rattle.std.specs.Prelude.{◌≡◌, ◌+◌, ℕ, true, List, []}
 use Rattle.std.specs.List.{list_all}
 use Rattle.st_base.specs.declared.config.Config.{Config}

@@ -32,7 +32,7 @@ asked_calm s cutting (bodies.Nack w x y) i = absurd i
 asked_calm s cutting b i = refl
 
 module _ (ms : List Message) (c : ClientId) (now : Stamp) (Lv : ServerId → ℕ → Type 0) where
-  -- a message is from this client, and where it is a request it has the clock's reading
+  -- a message is from this client, and if it is a request, it has the clock's reading
   pub record AsksNow (m : Message) : Type 0 where
     pub from : m.header.from ≡ c.0
     pub stamp : dating.is_request m.body ≡ true → m.header.stamp ≡ now.0
@@ -192,7 +192,7 @@ module _ (ms : List Message) (c : ClientId) (now : Stamp) (Lv : ServerId → ℕ
     pub dated_after_passes : (tick : Bool) (t : Turn) → G t → G (cp.passes now tick t)
     dated_after_passes tick t p = changes_passing t.operations t (cp.passes now tick t) (passes_keep_or_ask now tick t) p
 
-    -- Each change where no message is received, and such changes.
+    -- Each change if no message is received, and such changes.
     says_calm : (t : Turn) (o : Output) → SaysCalm false o → Plain o → G t → G (say t o)
     says_calm t (outputs.Send m) q i p = false_not_true q
     says_calm t (outputs.Submit number at what) q i p = absurd i

@@ -41,7 +41,7 @@ pub lost_same : (w : World) (k : ℕ) (m : SentMessage) → world.message_of w k
 lost_same w zero m e = cc
 lost_same w (suc n) m e = map_set message_in w.net.messages n m (record m { lost = true }) refl e
 
--- What is left of the messages ms and of the nodes of a world where these outputs were said.
+-- What is left of the messages ms and of the nodes of a world in which these outputs were said.
 pub record Leaves (ms : List Message) (w last : World) (out : List Output) : Type 0 where
   pub clients : last.clients ≡ w.clients
   pub servers : last.servers ≡ w.servers

@@ -51,7 +51,7 @@ module _ (ms : List Message) (c : ClientId) (now : Stamp) (Lv : ServerId → ℕ
   good_after_ends number ok t _ Unknown p = p
   good_after_ends number ok t _ (Passes x e o) p = good_after_store ms c now Lv s life t _ p
   good_after_ends number ok t _ (Hardens x v e o k w) p = good_after_store ms c now Lv s life t _ p
-  good_after_ends number ok t _ (Fails x v e o k) p = good_after_store ms c now Lv s life t _ p
+  good_after_ends number ok t _ (Fails x v e o k w) p = good_after_store ms c now Lv s life t _ p
 
   good_after_finished : (number : ℕ) (ok : Bool) (t u : Turn) → Finished now number ok t u → G t → G u
   good_after_finished number ok t u f p = idle ms c now Lv s life f.mid u f.calm (good_after_ends number ok t f.mid f.ends p)
@@ -265,7 +265,7 @@ module _ (ms : List Message) (c : ClientId) (now : Stamp) (Lv : ServerId → ℕ
       each_all (cp.passes now (cl.is_tick i)) (λ u q. (u.here.life, dated_after_passes ms c now Lv u.here.server u.here.life (cl.is_tick i) u q)) _
       (takes _ i k (each_all (cl.lose now) lost (client_turn x []) (record { id_ = p.id; all = λ a h. (p.all a h, lv a h); outs = λ m h. elim h [ ] })))
 
--- where nothing is asked of lives
+-- if nothing is asked of lives
 abbrev pub Ever : ServerId → ℕ → Type 0
 Ever s life = Unit {0}
 

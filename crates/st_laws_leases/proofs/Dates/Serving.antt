@@ -87,7 +87,7 @@ module _ (w : World) (s : ServerId) (ts : List TimerStart) (before : Authority) 
   since_more a out o x (inl z) = inl z
   since_more a out o x (inr z) = inr (record { is = z.is; noted = has_left out _ _ z.noted; start = z.start })
 
-  -- a message is from this server, and where it may date a lease it answers
+  -- a message is from this server, and if it may date a lease, it answers
   pub record OutOk (m : Message) : Type 0 where
     pub from : m.header.from ≡ server_node s
     pub dates : is_dating m ≡ true → A m
@@ -588,7 +588,7 @@ module _ (w : World) (s : ServerId) (ts : List TimerStart) (n : ServerState) (no
       good_after_send w s ts n.authority now A (with_locks (locks.with_demand r d t.state.locks) t) _ (ap server_node p.id_) (λ z. cc)
       (good_after_locks w s ts n.authority now A t _ (clients_known_after_demand (Met t.state.sessions) t.state.locks r d p.known) p)
 
--- a whole step, where the timers of the history run
+-- a whole step, if the timers of the history run
 pub step_good : (w : World) (s : ServerId) (ts : List TimerStart) (n : ServerState) (now : Stamp) (i : ServerInput) → ServerKnown s n →
     ((x : TimerStart) → Has x ts → x.server.0 ≡ s.0 → Runs n.authority x.client) → Timed ts s n → P w s ts n.authority now (AnswersTo i) (server_step n now i)
 step_good w s ts n now i k r z =

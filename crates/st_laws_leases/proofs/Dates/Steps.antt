@@ -164,7 +164,7 @@ still past t e sc d s =
       few = subst (λ z. length z ≤ 16) (sym s.clients) d.few;
     }
 
--- timers that stay, where an event's observations move none
+-- timers that stay if an event's observations move none
 same_timers : (t : Traced) (e : Event) (sc : WorldTurn) → (remember t.world e t.history).timers ≡ t.history.timers → AllCalm sc.seen →
     (history_after t.world e sc t.history).timers ≡ t.history.timers
 same_timers t e sc r k = calm_timers t.world sc.world sc.seen (remember t.world e t.history) k ∙ r
@@ -521,7 +521,7 @@ module _ (past : List Step) (t : Traced) (e : Event) (d : Dated past t) (r : (re
         kept = λ s n q c z. remains t e (ev.quiet (ev.counted t.world)) (same_timers t e (ev.quiet (ev.counted t.world)) r no_calm) s c z;
       })
 
--- A client or a server at its place is another one, and no message is sent.
+-- A client or a server at its place is replaced, and no message is sent.
 module _ (past : List Step) (t : Traced) (e : Event) (d : Dated past t) where
   client_placed : (c : ClientId) (old new : WorldClient) (sc : WorldTurn) → site_of t.world c ≡ Some old →
       sc.world.clients ≡ with_numbered c.0 new t.world.clients → sc.world.servers ≡ t.world.servers → messages sc.world ≡ messages t.world →

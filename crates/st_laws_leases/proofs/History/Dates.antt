@@ -117,7 +117,7 @@ unfolding client_says_all
 dates_said w v c before h [] a = refl
 dates_said w v c before h (o ∷ os) a = dates_said w v c before h os (client_says a c before o) ∙ ap (dates_out v c os) (dates_said_one w v c before h o a)
 
--- a lease of another client, or of another life than the present one, stays dated
+-- a lease of another client, or of a life other than the present one, stays dated
 pub dated_other : (v : World) (c d : ClientId) (s : ServerId) (l : Life) (o : Option Stamp) (os : List Output) (ds : List LeaseDate) → (c.0 ≡ d.0 → (present_life v c s).0 ≡ l.0 → ⊥) → Dated ds d s l o → Dated (dates_out v c os ds) d s l o
 dated_other v c d s l o [] ds f h = h
 dated_other v c d s l o (x ∷ os) ds f h = dated_other v c d s l o os (dates_one v c x ds) f (one x)

@@ -342,7 +342,7 @@ module _ (k : Config) (init base : ServerId → Option Stamp) (sv : ServerId) (T
       T life epoch (leases.lease_end k (record { 0 = h.stamp }))) → N t → N (cr.receive_at now h b t)
   noted_after_receive now h b t q src n = noted_after_heard now h t b (cr.receive_at now h b t) q src (receives now h t b) n
 
-  -- Where no message is received: no lease end is noted, and the session stays.
+  -- If no message is received: no lease end is noted, and the session stays.
   quiet_calm : (o : Output) → SaysCalm false o → Quiet o
   quiet_calm (outputs.Note n) q = false_not_true q
   quiet_calm (outputs.Send m) q = false_not_true q
@@ -423,7 +423,7 @@ module _ (k : Config) (init base : ServerId → Option Stamp) (sv : ServerId) (T
   noted_after_ends number ok t _ Unknown n = n
   noted_after_ends number ok t _ (Passes c e o) n = noted_after_store t _ n
   noted_after_ends number ok t _ (Hardens c v e o x w) n = noted_after_store t _ n
-  noted_after_ends number ok t _ (Fails c v e o x) n = noted_after_store t _ n
+  noted_after_ends number ok t _ (Fails c v e o x w) n = noted_after_store t _ n
 
   noted_after_finished : (now : Stamp) (number : ℕ) (ok : Bool) (t u : Turn) → Finished now number ok t u → N t → N u
   noted_after_finished now number ok t u f n = idle now f.mid u f.calm (noted_after_ends number ok t f.mid f.ends n)

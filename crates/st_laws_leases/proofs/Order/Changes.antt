@@ -285,7 +285,7 @@ module _ (k : Config) (ok : ConfigOk k) where
     no_other_reassertion : (d : ℕ) → d ≢ c → (w.at d).s.up ≡ true → (w.at d).s.grace ≡ true → (life stamp : ℕ) (locks : ℕ → Lock) → In (msg life (w.at d).s.epoch stamp (Reassert locks)) (w.at d).net → 2 ≤ (locks i).mode → ⊥
     no_other_reassertion d ne u g life stamp locks y x = let z = no_conflict k w ok r d c i life stamp locks ne u g y (omega (arith, x)) (omega (arith, two)) in omega (arith, z, x, two)
 
-    -- the client's own association belongs to the session, where its lease lasts
+    -- the client's own association belongs to the session if its lease lasts
     own_session : Alive k (w.at c).c → ((w.at c).c.epoch ≡ (w.at c).s.epoch) × ((w.at c).s.session ≡ (w.at c).c.life)
     own_session al = go (cases_Bool a.s.grace)
       where

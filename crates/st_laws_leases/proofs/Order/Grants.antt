@@ -59,7 +59,7 @@ any_found {A} p (x ∷ xs) e = go (p x) e (any_found p xs)
     go true e k = (x, refl)
     go false e k = k e
 
--- the first that passes is the first that passes a stricter test, where it does so
+-- the first that passes is the first that passes a stricter test, if it passes that one
 first_too : {A : Type 0} (p q : A → Bool) → ((x : A) → q x ≡ true → p x ≡ true) → (xs : List A) (y : A) → find p xs ≡ Some y → q y ≡ true → find q xs ≡ Some y
 first_too p q f [] y e t = cc
 first_too {A} p q f (x ∷ xs) y e t = go (p x) (q x) refl refl e (first_too p q f xs y)

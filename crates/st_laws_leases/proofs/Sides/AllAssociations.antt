@@ -70,7 +70,7 @@ none_too {A} {B} xs ys n l e = go (numbered ys n) refl
     go None f = refl
     go (Some y) f = let z = numbered_too ys xs n y (sym l) f in absurd (clash z.0 z.1)
 
--- The clocks' invariant holds where nothing of them is changed.
+-- The clocks' invariant holds if nothing of them is changed.
 pub timed_on : (k : Config) (s : ℕ) (w v : World) (G H : ℕ → Ghost) → Timed k s w G → v.config ≡ w.config → v.drift ≡ w.drift → v.clocks ≡ w.clocks →
     length v.clients ≡ length w.clients → length v.servers ≡ length w.servers → ((c : ℕ) → (H c).drift ≡ (G c).drift) → Timed k s v H
 timed_on k s w v G H t config drift clocks many servers same =
@@ -86,7 +86,7 @@ timed_on k s w v G H t config drift clocks many servers same =
     between : (c : ℕ) → drift_between v c s ≡ drift_between w c s
     between c = λ j. slice_index (get_or (drift j) (pred (many j + s)) []) (pred c)
 
--- a client's invariant holds where its site and the lives that are over are as they were, and messages were only added
+-- a client's invariant holds if its site and the lives that are over are as they were, and messages were only added
 standing_on : (k : Config) (s c : ℕ) (site : WorldClient) (es fs : List LeaseLife) (N M : List Msg) → fs ≡ es → Grows N M → Standing k s c site es N → Standing k s c site fs M
 standing_on k s c site es fs N M e g q =
     record {
@@ -96,7 +96,7 @@ standing_on k s c site es fs N M e g q =
       stopped = q.stopped;
     }
 
--- both sides hold where the server's side does, and the clients are as they were
+-- both sides hold if the server's side does, and the clients are as they were
 both_on : (k : Config) (s : ℕ) (w v : World) (node next : ServerNode) (ended : ℕ → ℕ → ℕ) (G H : ℕ → Ghost) → v.clients ≡ w.clients → v.ended ≡ w.ended →
     ((c : ℕ) → Grows (G c).net (H c).net) → Both k s w node ended G → Stands k s ended v next H → Both k s v next ended H
 both_on k s w v node next ended G H clients over grows b st =
@@ -206,7 +206,7 @@ module _ (k : Config) (count : ℕ) (H : ℕ → net.World → Type 0) (w : Worl
       each : (s : ℕ) (node : ServerNode) → node_of v (server s) ≡ Some node → LedServer k v s node (H s)
       each s node f = one s node (ap (λ xs. numbered xs s) (sym left.servers) ∙ f)
 
-  -- A server that is another one, or takes a step.
+  -- A server that is replaced, or takes a step.
   pub record ServerEvent (t : ℕ) (v : World) : Type 0 where
     pub node : ServerNode
     pub next : ServerNode

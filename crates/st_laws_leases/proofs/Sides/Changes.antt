@@ -103,7 +103,7 @@ all_more : (w : World) (os : List Observation) (o : Observation) → list_all (i
 all_more w [] o h e = and_both (is_write_locked w o) true e refl
 all_more w (x ∷ os) o h e = let z = and_true (is_write_locked w x) (list_all (is_write_locked w) os) h in and_both (is_write_locked w x) _ z.0 (all_more w os o z.1 e)
 
--- the lines of a client's outputs, where each page that they note as changed is locked
+-- the lines of a client's outputs, if each page that they note as changed is locked
 says_one : (w : World) (c : ClientId) (before : ClientState) (o : Output) (sc : WorldTurn) → list_all (is_write_locked w) sc.seen ≡ true → NoteAt (λ f p. changes_alone w c f p ≡ true) o →
     list_all (is_write_locked w) (ev.client_says sc c before o).seen ≡ true
 unfolding ev.client_says ev.sends ev.submits ev.answers_with ev.client_notes ev.accepts ev.patches ev.loses

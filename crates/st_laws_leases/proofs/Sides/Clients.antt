@@ -333,7 +333,7 @@ module _ (k : Config) (s : ℕ) (w : World) (node : ServerNode) (ended : ℕ →
               go e ec es (inl i) p = p e i ec es
               go e ec es (inr z) p = absurd (n (sym ec ∙ z.1))
 
--- what a server showed has a mode where it is a grant
+-- what a server showed has a mode if it is a grant
 pub fine_shown : (m : Message) (N : List Msg) → Shown m N → ((x : Msg) → net.In x N → net.Fits x.body) → Fine m.body
 unfolding with_date
 fine_shown m N q f = go m.body q.all

@@ -43,7 +43,7 @@ pub place_map : (f : Association → Association) → KeepsServer f → (own : S
 place_map f h own xs a p = record { before = map f p.before; after = map f p.after; is = ap (map f) p.is ∙ map_both f p.before a p.after; here = h a ∙ p.here; apart_before = apart_map f h own p.before p.apart_before; apart_after = apart_map f h own p.after p.apart_after }
 
 module _ (k : Config) (s : ℕ) (w : World) (node : ServerNode) (ended : ℕ → ℕ → ℕ) (G : ℕ → Ghost) (c : ℕ) (site : WorldClient) where
-  -- one client is another one, and nothing was sent
+  -- one client is replaced, and nothing was sent
   pub record Changed (v : World) (last : WorldClient) (E : ℕ → ℕ) : Type 0 where
     pub clients : v.clients ≡ with_numbered c last w.clients
     pub servers : v.servers ≡ w.servers

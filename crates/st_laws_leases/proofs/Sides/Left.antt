@@ -79,7 +79,7 @@ left_all w v s k t d c n =
       messages = λ m h. inl (m, subst (λ (x : world.Net). Has m x.messages) n h, refl);
     }
 
--- the same where links are cut or healed
+-- the same if links are cut or healed
 pub left_with : (w v : World) → v.servers ≡ w.servers → v.config ≡ w.config → v.clocks ≡ w.clocks → v.drift ≡ w.drift → v.clients ≡ w.clients → v.net.bytes ≡ w.net.bytes → v.net.messages ≡ w.net.messages → Left w v
 left_with w v s k t d c b n =
     record {
@@ -92,7 +92,7 @@ left_with w v s k t d c b n =
       messages = λ m h. inl (m, subst (Has m) n h, refl);
     }
 
--- one client is another one
+-- one client is replaced
 pub one_changed : (w : World) (c : ClientId) (new : WorldClient) (v : World) → v.servers ≡ w.servers → v.config ≡ w.config → v.clocks ≡ w.clocks → v.drift ≡ w.drift →
     v.clients ≡ with_numbered c.0 new w.clients → v.net ≡ w.net → Left w v
 one_changed w c new v s k t d e n =

@@ -48,7 +48,7 @@ only_here s xs a p x h e = go p.before p.apart_before (subst (Has x) p.is h)
     go (y ∷ ys) q (inl f) = absurd (q.one (sym e ∙ ap (λ (v : Association). server_node v.server) f))
     go (y ∷ ys) q (inr h) = go ys q.rest h
 
--- the client's half of the pair, where the client runs
+-- the client's half of the pair, if the client runs
 pub own_view : (w : World) (c s : ℕ) (e : ℕ → ℕ) (site : WorldClient) (a : Association) → site_of w (client c) ≡ Some site → site.node.running ≡ true → Place (server s) site.node.state.associations a →
     client_in w c s e ≡ client_of e (clock_of w (nodes.Client (client c))).0 a
 own_view w c s e site a there runs p =

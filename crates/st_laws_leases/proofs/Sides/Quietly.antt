@@ -1,4 +1,4 @@
--- Where no node takes a step, nothing is sent, so no conflict.
+-- If no node takes a step, nothing is sent, so no conflict.
 use Rattle.st_lemmas.proofs.Words
 use Words.{◌≡◌, ℕ, ◌+◌, true, List, [], ◌∷◌, Option, Some, None, refl, ◌∙◌, list_all, ClientId, NodeId, ServerId, Fate, LogEntry}
 use Words.nodes

@@ -91,7 +91,7 @@ pub record Stands (n : ℕ) (c : ClientId) (k : Config) (Q : List Operation → 
   pub own : Knows n t.here.server t.here.store.extents
   pub cond : C t.here.server t.here.session t.here.greeting
 
--- The conditions: the server may be used; it may, where there is a session; and if there is one or a greeting.
+-- The conditions: the server may be used; it may if there is a session; and it may if there is a session or a greeting.
 abbrev pub Used : (ServerId → Type 0) → ServerId → Option ClientSession → Option Stamp → Type 0
 Used Use s o g = Use s
 

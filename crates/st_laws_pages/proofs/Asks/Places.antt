@@ -9,7 +9,7 @@ use Words.Lookups.{some_is}
 use Words.Tables.{found_at, has_filter}
 use Rattle.st_lemmas.proofs.Puts.{has_put}
 
--- a block lies on a disk of this server, where there are that many servers
+-- a block lies on a disk of this server if there are that many servers
 abbrev pub On : ℕ → ServerId → BlockAt → Type 0
 On n s at = pred at.disk.0 % n + 1 ≡ s.0
 

@@ -1,4 +1,4 @@
--- A server's pages lie on its own disks, and it tells nothing else, also where it repeats a reply.
+-- A server's pages lie on its own disks, and it tells nothing else, also when it repeats a reply.
 use Rattle.st_lemmas.proofs.Words
 use Words.{◌≡◌, ℕ, ◌+◌, ◌%◌, Bool, true, false, List, [], ◌∷◌, ◌++◌, refl, sym, ap, ◌∙◌, subst, inl, inr, arith, if◌then◌else◌, ◌⊎◌, Option, Some, None, Ok}
 use Words.{filter, option_map, pred, suc, eqb-true, BlockAt, ClientId, ServerId, FileId, Life, PageNo, Stamp, Mode, ExtentRow, Header}

@@ -92,7 +92,7 @@ module _ (past : List Step) (x : Step) where
   both_same : (w : World) → BothHold past w → BothHold more w
   both_same w h = record { flush = same w h.flush; writes = h.writes }
 
-  -- The log, the commands and the latest entries, where nothing of them moved but fates.
+  -- The log, the commands and the latest entries, if nothing of them moved but fates.
   latest_marked : (w v : World) → v.clients ≡ w.clients → map owner_of v.log ≡ map owner_of w.log → LatestStand w → LatestStand v
   latest_marked w v cs l h c site e r a i = latest_owned c a w.log v.log l (h c site (ap (λ zs. numbered zs c.0) (sym cs) ∙ e) r a i)
 
@@ -291,7 +291,7 @@ module _ (past : List Step) (x : Step) where
             }
           where
             cared : (a : Association) → Came a → Cared more w.commands w.log c new.starts 1 a
-            cared a (b, j, e) = emptied_cared more w c site new.starts 1 there l b a j (ap (λ (z : Association). z.server) (sym e)) (ap (λ (z : Association). z.life) (sym e)) (ap (λ (z : Association). z.store) e)
+            cared a (b, j, e) = emptied_cared more w c site new.starts 1 (omega arith) there l b a j (ap (λ (z : Association). z.server) (sym e)) (ap (λ (z : Association). z.life) (sym e)) (ap (λ (z : Association). z.store) e)
 
             apart : (a : Association) → Came a → NumbersApart a.store.commands
             apart a (b, j, e) = subst (λ (z : Association). NumbersApart z.store.commands) (sym e) (λ pc qc p q n. absurd p)

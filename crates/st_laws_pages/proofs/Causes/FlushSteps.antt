@@ -65,7 +65,7 @@ one_more c before site sc own (outputs.Note n) = note n
 cared_entry : (past : List Step) (cs : List IssuedCommand) (es : List LogEntry) (c d : ClientId) (starts next : ℕ) (b : Association) (e : LogEntry) → (d.0 ≡ c.0 → ⊥) → e.of.client ≡ c → Cared past cs es d starts next b → Cared past cs (es ++ e ∷ []) d starts next b
 cared_entry past cs es c d starts next b e n q h =
     entry_elsewhere past cs es d starts next b e (λ p u v w. absurd (n (ap (λ (x : ClientId). x.0) (sym u ∙ q))))
-    (λ pc i. ap (λ z. z && (same_file e.of.file (Rattle.st_laws_pages.specs.Flush.Flush.file_at b pc.ino) && same_page e.of.page pc.page)) (ne_eqb e.of.client.0 d.0 (λ z. n (sym z ∙ ap (λ (x : ClientId). x.0) q)))) h
+    (λ ino p. ap (λ z. z && (same_file e.of.file (Rattle.st_laws_pages.specs.Flush.Flush.file_at b ino) && same_page e.of.page p)) (ne_eqb e.of.client.0 d.0 (λ z. n (sym z ∙ ap (λ (x : ClientId). x.0) q)))) h
 
 other_says : (past : List Step) (c d : ClientId) (before : ClientState) (site : WorldClient) (starts next : ℕ) (b : Association) → (d.0 ≡ c.0 → ⊥) → (os : List Output) (sc : WorldTurn) → site_of sc.world c ≡ Some site → Cared past sc.world.commands sc.world.log d starts next b →
     Cared past (After c before sc os).world.commands (After c before sc os).world.log d starts next b

@@ -93,7 +93,7 @@ module _ (past : List Step) (x : Step) where
         asks = λ c site e. still_asked past x c site site (none c) refl (inl refl) (h c site (ap (λ zs. numbered zs c.0) (sym cs) ∙ e));
       }
 
-  -- one client is another, with nothing pending
+  -- one client is replaced by one with nothing pending
   emptied : (w : World) (sc : WorldTurn) (c : ClientId) (old new : WorldClient) → ((d : ClientId) → ask_in d x.event ≡ None) → AllDull sc.seen → site_of w c ≡ Some old → sc.world.clients ≡ with_numbered c.0 new w.clients → new.asks ≡ old.asks → new.node.state.operations ≡ [] → AskedHold past w → Left w sc
   emptied w sc c old new none d there cs e ops h =
       record { hard = dull_hard past x x.after.world w.log sc.seen d; asks = λ y site q. go y site q (same_or_not y.0 c.0) }

@@ -1,4 +1,4 @@
--- What is observed of a client's outputs: a sync is answered hard only where its file is, in the log at that line.
+-- What is observed of a client's outputs: a sync is answered hard only if its file is, in the log at that line.
 use Rattle.st_lemmas.proofs.Words
 use Words.{◌≡◌, ◌+◌, true, List, [], ◌∷◌, ◌++◌, Option, Some, None, refl, sym, ap, ◌∙◌, subst, append_assoc, length, list_all, ClientId, Life, ServerId}
 use Words.{AppAnswer, Note, Output, LogEntry, Observation, append-nil}

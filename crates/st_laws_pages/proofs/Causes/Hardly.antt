@@ -1,4 +1,4 @@
--- A sync is answered hard only where its file is, in the log at that answer: through a whole step of a client.
+-- A sync is answered hard only if its file is, in the log at that answer: through a whole step of a client.
 use Rattle.st_lemmas.proofs.Words
 use Words.{◌≡◌, ℕ, Bool, true, false, not, ◌&&◌, ◌||◌, ◌==◌, List, [], ◌∷◌, ◌++◌, Option, Some, refl, sym, ap, ◌∙◌, subst, inl, inr, length, map}
 use Words.{list_all, eqb-true, ClientId, FileId, Life, PageNo, ServerId, Stamp, AppAnswer, Ask, Output, Operation, Fate, LogEntry, LogOwner, DirtyPage}
@@ -88,7 +88,7 @@ has_key (x ∷ os) o (inl e) = inl (ap key e)
 has_key (x ∷ os) o (inr i) = inr (has_key os o i)
 has_key [] o i = absurd i
 
--- Where a file is hard at its client, all of its entries are.
+-- If a file is hard at its client, all of its entries are.
 has_dirty_page : (ps : pages.Pages) (ino : ℕ) (p : PageNo) (d : DirtyPage) → pages.dirty_of ps ino p ≡ Some d → pages.has_dirty ps ino ≡ true
 has_dirty_page ps ino p d e =
     let z = found_at (pages.is_dirty_of ino p) ps.dirty d e in

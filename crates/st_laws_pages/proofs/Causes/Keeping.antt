@@ -81,14 +81,14 @@ module _ (past : List Step) (size : ℕ) (c : ClientId) (before : ClientState) (
   silent number ok t _ Unknown = (refl, refl, refl, refl)
   silent number ok t _ (Passes pc e o) = (refl, refl, refl, refl)
   silent number ok t _ (Hardens pc v e o k w) = (refl, refl, refl, refl)
-  silent number ok t _ (Fails pc v e o k) = (refl, refl, refl, refl)
+  silent number ok t _ (Fails pc v e o k w) = (refl, refl, refl, refl)
 
   ends_apart : (number : ℕ) (ok : Bool) (t u : Turn) → Ends number ok t u → NumbersApart t.here.store.commands → NumbersApart u.here.store.commands
   unfolding cl.hardened
   ends_apart number ok t _ Unknown h = h
   ends_apart number ok t _ (Passes pc e o) h = apart_fewer _ t.here.store.commands h
   ends_apart number ok t _ (Hardens pc v e o k w) h = apart_fewer _ t.here.store.commands h
-  ends_apart number ok t _ (Fails pc v e o k) h = apart_fewer _ t.here.store.commands h
+  ends_apart number ok t _ (Fails pc v e o k w) h = apart_fewer _ t.here.store.commands h
 
   ends_around : (number : ℕ) (ok : Bool) (t u : Turn) → Ends number ok t u → Told past sc c site.starts number ok → (others : List Association) → Placed size t.out → In t others → In u others
   ends_around number ok t u e told others h r = moved (silent number ok t u e)
@@ -111,7 +111,7 @@ module _ (past : List Step) (size : ℕ) (c : ClientId) (before : ClientState) (
       its : (pc : PageCommand) → pc.number ≡ number → IsIts c site.starts pc.number told.command
       its pc n = let z = told.its in record { client = z.client; instance_ = z.instance_; number_is = z.number_is ∙ sym n }
 
-      failure : (pc : PageCommand) → Has pc t.here.store.commands → pc.number ≡ number → (v : ℕ) → pc.kind ≡ io.Write v → ok ≡ false → Rattle.st_laws_pages.proofs.Flush.Ending.FailureOwed past cs c t.here pc
+      failure : (pc : PageCommand) → Has pc t.here.store.commands → pc.number ≡ number → (v : ℕ) → pc.kind ≡ io.Write v → ok ≡ false → Rattle.st_laws_pages.proofs.Flush.Ending.FailureOwed past cs es c t.here pc v
       failure pc i n v k f = failure_owed past cs es c site.starts t.next_command t.here told.k told.command is (told.failed f) r.around.here pc i (its pc n) v k
 
       success : (pc : PageCommand) → Has pc t.here.store.commands → pc.number ≡ number → (v : ℕ) → pc.kind ≡ io.Write v → ok ≡ true → Rattle.st_laws_pages.proofs.Flush.Ending.SuccessOwed es c t.here pc v

@@ -1,4 +1,4 @@
--- Where a client's step submits writes: each goes to a disk of its file's server.
+-- When a client's step submits writes: each goes to a disk of its file's server.
 use Rattle.st_lemmas.proofs.Words
 use Words.{◌≡◌, ℕ, Bool, true, false, ◌⊎◌, List, [], ◌∷◌, ◌++◌, Option, refl, sym, ap, ◌∙◌, subst, inl, inr, append_assoc, if◌then◌else◌, map, Tag, ClientId}
 use Words.{FileId, ServerId, Stamp, AppAnswer, Ask, Body, Header, Output, ClientInput, Operation, ◌%◌, ◌+◌, pred, Some, BlockAt, length}
@@ -82,7 +82,7 @@ since_with : (P Q R : Output → Type 0) → ((o : Output) → P o → Q o → R
 since_with P Q R f os ps a b =
     record { more = a.more; out = a.out; each = each_with P Q R f a.more a.each (subst (EachOut Q) (same_behind os b.more a.more (sym b.out ∙ a.out)) b.each) }
 
--- A write goes to a disk of its file's server, where there are that many servers.
+-- A write goes to a disk of its file's server if there are that many servers.
 abbrev pub PlacedOne : ℕ → Output → Type 0
 PlacedOne n (outputs.Submit number at (commands.Write to tag bytes)) = On n tag.file.server at
 PlacedOne n o = Unit {0}
@@ -146,7 +146,7 @@ unfolding cl.hardened
 ends_quiet number ok t _ Unknown = (refl, refl)
 ends_quiet number ok t _ (Passes pc e o) = (refl, refl)
 ends_quiet number ok t _ (Hardens pc v e o k w) = (refl, refl)
-ends_quiet number ok t _ (Fails pc v e o k) = (refl, refl)
+ends_quiet number ok t _ (Fails pc v e o k w) = (refl, refl)
 
 finished_tagged : (now : Stamp) (number : ℕ) (ok : Bool) (t u : Turn) → Finished now number ok t u → Since (TaggedOne t.here.server) t.out u.out
 finished_tagged now number ok t u f =

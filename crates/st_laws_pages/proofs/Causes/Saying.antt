@@ -1,4 +1,4 @@
--- What the outputs of a client's step add to the commands and the log of the world, by each change, where its writes are placed.
+-- What the outputs of a client's step add to the commands and the log of the world, by each change, if its writes are placed.
 use Rattle.st_lemmas.proofs.Words
 use Words.{◌≡◌, ℕ, List, [], ◌∷◌, ◌++◌, Some, refl, sym, ap, ◌∙◌, subst, map, length, pred, ◌%◌, ◌+◌, BlockAt, Command, Tag, ClientId, FileId, PageNo, ServerId}
 use Words.{Life, Stamp, AppAnswer, Note, Output, Operation, LogEntry, IssuedCommand}

@@ -112,7 +112,8 @@ module _ (past : List Step) (w : World) (c : ClientId) (old site : WorldClient) 
             by : (x : Bool) → is_ended s.config now a.session ≡ x → Cared past w.commands w.log c site.starts s.next_command b
             by false e = subst (Cared past w.commands w.log c site.starts s.next_command) (r.lasts e) (old_cared a j)
             by true e =
-                emptied_cared past w c old site.starts s.next_command here h a b (subst (λ (n : cl.ClientNode). Has a n.state.associations) (sym same) j)
+                emptied_cared past w c old site.starts s.next_command (old_cared a j).first here h a b
+                (subst (λ (n : cl.ClientNode). Has a n.state.associations) (sym same) j)
                 r.server (r.lost e) (r.emptied e)
 
     pub latest_t : (b : Association) → Has b t.state.associations → LatestOwn c (After c s sc t.out).world.log b

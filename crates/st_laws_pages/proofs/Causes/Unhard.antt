@@ -60,7 +60,7 @@ unfolding cl.hardened
 ends_unhard number ok t _ Unknown = since_none Unhard t.out
 ends_unhard number ok t _ (Passes c e o) = since_none Unhard t.out
 ends_unhard number ok t _ (Hardens c v e o k w) = since_none Unhard t.out
-ends_unhard number ok t _ (Fails c v e o k) = since_none Unhard t.out
+ends_unhard number ok t _ (Fails c v e o k w) = since_none Unhard t.out
 
 finished_unhard : (now : Stamp) (number : ℕ) (ok : Bool) (t u : Turn) → Finished now number ok t u → H t u
 finished_unhard now number ok t u f = since_then Unhard t.out f.mid.out u.out (ends_unhard number ok t f.mid f.ends) (changes_calm false now f.mid u f.calm)

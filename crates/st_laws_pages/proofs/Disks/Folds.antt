@@ -35,7 +35,7 @@ pub cuts_last : (es : List LogEntry) (e : LogEntry) → (e.change ≡ changes.Cu
 cuts_last [] e g c = record { one = g; rest = record {} }
 cuts_last (x ∷ es) e g c = record { one = c.one; rest = cuts_last es e g c.rest }
 
--- Where two logs are alike for a page: the same owners and changes, and the same fates of what touches it.
+-- Two logs are alike for a page: the same owners and changes, and the same fates of what touches it.
 abbrev pub Alike : FileId → PageNo → List LogEntry → List LogEntry → Type 0
 Alike f p [] [] = Unit {0}
 Alike f p [] (y ∷ ys) = ⊥
@@ -50,7 +50,7 @@ pub record OneAlike (f : FileId) (p : PageNo) (x y : LogEntry) : Type 0 where
 touch_same : (f : FileId) (p : PageNo) (x y : LogEntry) → OneAlike f p x y → touches f p y ≡ touches f p x
 touch_same f p x y a = ap (λ o. same_file o.file f && log.reaches y.change o.page p) a.of ∙ ap (λ c. same_file x.of.file f && log.reaches c x.of.page p) a.change
 
--- a test of the fate, where it touches
+-- a test of the fate, if it touches
 test_same : (f : FileId) (p : PageNo) (t : Fate → Bool) (x y : LogEntry) → OneAlike f p x y → (touches f p y && t y.fate) ≡ (touches f p x && t x.fate)
 test_same f p t x y a = ap (λ b. b && t y.fate) (touch_same f p x y a) ∙ go (touches f p x) refl
   where

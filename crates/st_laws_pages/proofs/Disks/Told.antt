@@ -29,7 +29,7 @@ use Rattle.st_laws_steps.specs.Lives.Lives.{ended_rows}
 use Rattle.st_laws_pages.proofs.Lives.Turning.{Said, says_one, says_lives}
 use Rattle.st_laws_pages.proofs.Lives.Lasting.{Flushed, flush_parts}
 
--- What is reported so far, where lives are looked up in this world.
+-- What is reported so far, with lives looked up in this world.
 record Told (f : World) (old : List LogEntry) (os : List Observation) (now : List LogEntry) : Type 0 where
   pub entries : lines.log_told f old os ≡ now
   pub numbers : lines.all_tell_log f old os ≡ true
@@ -125,7 +125,7 @@ at_server_told w s input (Some node) = go (server.node_step node (clock_of w (no
     go (Err e) = record { entries = refl; numbers = refl }
     go (Ok t) = server_told _ w.log s t.out (ev.quiet (ev.with_node s t.node w)) (record { entries = refl; numbers = refl })
 
--- Fates: an entry is as it was, or its pending fate is another.
+-- Fates: an entry is as it was, or its pending fate has changed.
 record Fated (e f : LogEntry) : Type 0 where
   pub is : f ≡ record e { fate = f.fate }
   pub open_or_same : (e.fate ≡ fates.Pending) ⊎ (f.fate ≡ e.fate)

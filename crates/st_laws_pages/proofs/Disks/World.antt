@@ -23,7 +23,7 @@ use Rattle.st_laws_pages.proofs.Disks.Law.{hardened, kept_with_fewer_living, len
 use Rattle.st_laws_pages.proofs.Disks.Effects.{EffectFinds, effect_is, wrote_own, wrote_other, ReportFinds, reported_world}
 use Rattle.st_lemmas.proofs.Marks.{owners_harden}
 
--- Commands by number. what holds where one was replaced
+-- Commands by number. What holds if one was replaced
 replaced : (ds : List DiskCommand) (n : ℕ) (c y : DiskCommand) → slice_get (set ds n c) n ≡ Some y → y ≡ c
 replaced ds n c y e = let z = get_there ds n (let l = get_below (set ds n c) n y e in subst (λ m. n < m) (set_length ds n c) l) in some_is (sym e ∙ set_own ds n c z.0 z.1)
 

@@ -1,4 +1,4 @@
--- What is owed for the causes of drops at a crash, and where commands are submitted, follows from lives and fates.
+-- What is owed for the causes of drops at a crash, and when commands are submitted, follows from lives and fates.
 use Rattle.st_lemmas.proofs.Words
 use Words.{◌≡◌, ℕ, ◌+◌, ◌≤◌, ◌<◌, ◌⊎◌, Bool, true, false, ◌&&◌, List, [], ◌∷◌, ◌++◌, ◌==◌, Option, Some, None, refl, sym, ap, ◌∙◌, subst, inl, inr, arith}
 use Words.{if◌then◌else◌, find, map, nat_le, option_map, list_any, eqb-true, eq-eqb, ClientId, ServerId, Life, Stamp, Output, LogEntry, LogOwner, IssuedCommand}
@@ -165,7 +165,7 @@ over_apart w c old after out there r st h o kn ov i l = go (find (is_at o.file.s
     go None f = none f
     go (Some b) f = some b f (pair_found (LifeNext now old.node.state) (λ x y p. p.server) o.file.server old.node.state.associations after.associations st.pairs b f)
 
--- One more command: the last write of an owner stays, where it carries no entry of that owner.
+-- One more command: the last write of an owner stays if it carries no entry of that owner.
 pub last_more : (o : LogOwner) (n before : ℕ) (cs : List IssuedCommand) (x : IssuedCommand) → ev.carries_for o x x.carries ≡ false → ev.last_write_from n before o (cs ++ x ∷ []) ≡ ev.last_write_from n before o cs
 unfolding ev.last_write_from ev.last_write_at
 last_more o n before [] x e = ap (λ b. if b then n else before) e

@@ -14,7 +14,7 @@ use Words.Events as ev
 use Words.Events.{latest, last_write}
 use Words.Safety.{Step, reports_failure}
 use Words.Lists.{Has}
-use Words.Numbers.{numbered_more, numbered_has}
+use Words.Numbers.{numbered_more, numbered_old, numbered_has}
 use Words.Tables.{and_true, and_both, has_filter, has_append, none_passes}
 use Words.Lookups.{some_is, or_left, or_right}
 use Words.Truth.{not_both}
@@ -22,7 +22,7 @@ use Rattle.st_lemmas.proofs.Contents.{Place_is, self_place, one_place}
 use Rattle.st_laws_pages.specs.Fates.Fates.{PendingAll}
 use Rattle.st_laws_steps.proofs.Client.Nexts.{dirty_put}
 use Rattle.st_laws_pages.proofs.Fates.Fates.{pending_map}
-use Rattle.st_laws_pages.specs.Flush.Flush.{file_at, owner_at_page, IsIts, Sent, WriteCared, DirtyHere, Cared, NumbersBelow}
+use Rattle.st_laws_pages.specs.Flush.Flush.{file_at, owner_at_page, IsIts, Sent, WriteCared, DirtyHere, LastFailed, Cared, NumbersBelow}
 use Rattle.st_laws_pages.proofs.Fates.FateSteps.{pending_more}
 use Rattle.st_laws_pages.proofs.Fates.Owing.{last_more}
 use Rattle.st_laws_pages.proofs.Disks.Writer.{latest_last}
@@ -35,6 +35,33 @@ latest_stays c f p es e q = latest_last 1 0 c f p es e ∙ ap (λ b. if b then 1
 pub last_stays : (o : LogOwner) (cs : List IssuedCommand) (x : IssuedCommand) → ev.carries_for o x x.carries ≡ false → last_write (cs ++ x ∷ []) o ≡ last_write cs o
 unfolding last_write
 last_stays o cs x q = last_more o 1 0 cs x q
+
+-- A last write that failed stays so, after more steps and as the log and the commands grow elsewhere.
+pub still_failed : (past more : List Step) (cs ds : List IssuedCommand) (es fs : List LogEntry) (o : LogOwner) (number : ℕ) →
+    ((k : ℕ) → list_any (reports_failure k) past ≡ true → list_any (reports_failure k) more ≡ true) → last_write ds o ≡ last_write cs o →
+    ((x : IssuedCommand) → numbered cs (last_write cs o) ≡ Some x → numbered ds (last_write cs o) ≡ Some x) →
+    latest fs o.client o.file o.page ≡ latest es o.client o.file o.page → LastFailed past cs es o number → LastFailed more ds fs o number
+still_failed past more cs ds es fs o number up last stays late h =
+    record {
+      told = ap (λ k. list_any (reports_failure k) more) last ∙ up (last_write cs o) h.told;
+      command = h.command;
+      is = ap (numbered ds) last ∙ stays h.command h.is;
+      number_is = h.number_is;
+      first = h.first;
+      carries = h.carries ∙ ap (λ i. Some (record { file = o.file; page = o.page; index = i })) (sym late);
+    }
+
+-- one more command that carries no entry of the owner
+pub command_failed : (past : List Step) (cs : List IssuedCommand) (es : List LogEntry) (o : LogOwner) (number : ℕ) (x : IssuedCommand) →
+    ev.carries_for o x x.carries ≡ false → LastFailed past cs es o number → LastFailed past (cs ++ x ∷ []) es o number
+command_failed past cs es o number x none h =
+    still_failed past past cs (cs ++ x ∷ []) es es o number (λ k t. t) (last_stays o cs x none) (λ y. numbered_old cs x (last_write cs o) y) refl h
+
+-- one more entry that is not the client's to the page
+pub entry_failed : (past : List Step) (cs : List IssuedCommand) (es : List LogEntry) (o : LogOwner) (number : ℕ) (e : LogEntry) →
+    ev.is_entry_of o.client o.file o.page e ≡ false → LastFailed past cs es o number → LastFailed past cs (es ++ e ∷ []) o number
+entry_failed past cs es o number e none h =
+    still_failed past past cs cs es (es ++ e ∷ []) o number (λ k t. t) refl (λ y q. q) (latest_stays o.client o.file o.page es e none) h
 
 -- The same after more steps, and in a log of which the latest entries are the same and nothing more is pending.
 pub cared_fates : (past more : List Step) (cs : List IssuedCommand) (es fs : List LogEntry) (c : ClientId) (starts next : ℕ) (a : Association) → ((n : ℕ) → list_any (reports_failure n) past ≡ true → list_any (reports_failure n) more ≡ true) →
@@ -49,35 +76,44 @@ cared_fates past more cs es fs c starts next a up same fewer h =
             link = w.link;
           };
       reads = h.reads;
+      first = h.first;
+      above = h.above;
       below = h.below;
       once = h.once;
       versions = h.versions;
-      failed = λ ino p d n i q. fail ino p (h.failed ino p d n i q);
+      failed = λ ino p d n i q. fail ino p n (h.failed ino p d n i q);
     }
   where
-    fail : (ino : ℕ) (p : PageNo) → (pages.is_being_written a.store.commands ino p ≡ true) ⊎ (list_any (reports_failure (last_write cs (owner_at_page c a ino p))) past ≡ true) →
-        (pages.is_being_written a.store.commands ino p ≡ true) ⊎ (list_any (reports_failure (last_write cs (owner_at_page c a ino p))) more ≡ true)
-    fail ino p (inl b) = inl b
-    fail ino p (inr b) = inr (up (last_write cs (owner_at_page c a ino p)) b)
+    fail : (ino : ℕ) (p : PageNo) (n : ℕ) → (pages.is_being_written a.store.commands ino p ≡ true) ⊎ LastFailed past cs es (owner_at_page c a ino p) n →
+        (pages.is_being_written a.store.commands ino p ≡ true) ⊎ LastFailed more cs fs (owner_at_page c a ino p) n
+    fail ino p n (inl b) = inl b
+    fail ino p n (inr b) = inr (still_failed past more cs cs es fs (owner_at_page c a ino p) n up refl (λ y q. q) (same (file_at a ino) p) b)
 
 -- An entry elsewhere: of another page, or of another server.
 pub entry_elsewhere : (past : List Step) (cs : List IssuedCommand) (es : List LogEntry) (c : ClientId) (starts next : ℕ) (a : Association) (e : LogEntry) → (log.is_pending e.fate ≡ true → DirtyHere c a e.of) →
-    ((pc : PageCommand) → Has pc a.store.commands → ev.is_entry_of c (file_at a pc.ino) pc.page e ≡ false) → Cared past cs es c starts next a → Cared past cs (es ++ e ∷ []) c starts next a
+    ((ino : ℕ) (p : PageNo) → ev.is_entry_of c (file_at a ino) p e ≡ false) → Cared past cs es c starts next a → Cared past cs (es ++ e ∷ []) c starts next a
 entry_elsewhere past cs es c starts next a e d n h =
     record {
       entries = pending_more (DirtyHere c a) es e d h.entries;
       writes = λ pc i v q. let w = h.writes pc i v q in
           record {
-            world = λ k x j s. let o = w.world k x j s in record { index = o.index; carries = o.carries; last = o.last; latest_is = λ y z u. o.latest_is y z u ∙ sym (latest_stays c (file_at a pc.ino) pc.page es e (n pc i)) };
+            world = λ k x j s. let o = w.world k x j s in record { index = o.index; carries = o.carries; last = o.last; latest_is = λ y z u. o.latest_is y z u ∙ sym (latest_stays c (file_at a pc.ino) pc.page es e (n pc.ino pc.page)) };
             low = w.low;
             link = w.link;
           };
       reads = h.reads;
+      first = h.first;
+      above = h.above;
       below = h.below;
       once = h.once;
       versions = h.versions;
-      failed = h.failed;
+      failed = λ ino p d m i q. fail ino p m (h.failed ino p d m i q);
     }
+  where
+    fail : (ino : ℕ) (p : PageNo) (m : ℕ) → (pages.is_being_written a.store.commands ino p ≡ true) ⊎ LastFailed past cs es (owner_at_page c a ino p) m →
+        (pages.is_being_written a.store.commands ino p ≡ true) ⊎ LastFailed past cs (es ++ e ∷ []) (owner_at_page c a ino p) m
+    fail ino p m (inl b) = inl b
+    fail ino p m (inr b) = inr (entry_failed past cs es (owner_at_page c a ino p) m e (n ino p) b)
 
 -- A command elsewhere: it is none of those that are outstanding, and carries no entry of this association's owners.
 pub command_beside : (past : List Step) (cs : List IssuedCommand) (es : List LogEntry) (c : ClientId) (starts next more : ℕ) (a : Association) (x : IssuedCommand) → next ≤ more → ((pc : PageCommand) → Has pc a.store.commands → IsIts c starts pc.number x → ⊥) →
@@ -87,10 +123,12 @@ command_beside past cs es c starts next more a x up none n h =
       entries = h.entries;
       writes = λ pc i v q. let w = h.writes pc i v q in record { world = λ k y j s. write pc i v k y s (numbered_more cs x k y j) w; low = w.low; link = w.link };
       reads = λ pc i q k y j s. read pc i q k y s (numbered_more cs x k y j);
+      first = let z = h.first in omega (arith, z, up);
+      above = h.above;
       below = λ pc i. let z = h.below pc i in omega (arith, z, up);
       once = h.once;
       versions = h.versions;
-      failed = λ ino p d m i q. fail ino p (h.failed ino p d m i q);
+      failed = λ ino p d m i q. fail ino p m (h.failed ino p d m i q);
     }
   where
     apart : (pc : PageCommand) → Has pc a.store.commands → (y : IssuedCommand) → y ≡ x → IsIts c starts pc.number y → ⊥
@@ -104,10 +142,10 @@ command_beside past cs es c starts next more a x up none n h =
     read pc i q k y s (inl j) = h.reads pc i q k y j s
     read pc i q k y s (inr j) = absurd (apart pc i y j.1 s)
 
-    fail : (ino : ℕ) (p : PageNo) → (pages.is_being_written a.store.commands ino p ≡ true) ⊎ (list_any (reports_failure (last_write cs (owner_at_page c a ino p))) past ≡ true) →
-        (pages.is_being_written a.store.commands ino p ≡ true) ⊎ (list_any (reports_failure (last_write (cs ++ x ∷ []) (owner_at_page c a ino p))) past ≡ true)
-    fail ino p (inl b) = inl b
-    fail ino p (inr b) = inr (ap (λ m. list_any (reports_failure m) past) (last_stays (owner_at_page c a ino p) cs x (n ino p)) ∙ b)
+    fail : (ino : ℕ) (p : PageNo) (m : ℕ) → (pages.is_being_written a.store.commands ino p ≡ true) ⊎ LastFailed past cs es (owner_at_page c a ino p) m →
+        (pages.is_being_written a.store.commands ino p ≡ true) ⊎ LastFailed past (cs ++ x ∷ []) es (owner_at_page c a ino p) m
+    fail ino p m (inl b) = inl b
+    fail ino p m (inr b) = inr (command_failed past cs es (owner_at_page c a ino p) m x (n ino p) b)
 
 -- It has the client's next number.
 pub command_elsewhere : (past : List Step) (cs : List IssuedCommand) (es : List LogEntry) (c : ClientId) (starts next : ℕ) (a : Association) (x : IssuedCommand) → x.number ≡ next → ((ino : ℕ) (p : PageNo) → ev.carries_for (owner_at_page c a ino p) x x.carries ≡ false) →
@@ -165,6 +203,8 @@ store_same past cs es c starts next a b s l d v k h =
           entries = h.entries;
           writes = λ pc i v q. let w = h.writes pc i v q in record { world = λ k x j s. let o = w.world k x j s in record { index = o.index; carries = o.carries; last = o.last; latest_is = o.latest_is }; low = w.low; link = w.link };
           reads = h.reads;
+          first = h.first;
+          above = h.above;
           below = h.below;
           once = h.once;
           versions = h.versions;
@@ -192,6 +232,8 @@ written_cared past cs es c starts next a f p bytes ch sv h =
       entries = pending_more (DirtyHere c b) es e (λ q u v w. (new, dirty_put new a.store.pages.dirty f.ino p true (self_place f.ino p))) (pending_map (DirtyHere c a) (DirtyHere c b) es (λ o d u v w. still o.file.ino o.page (d u v w)) h.entries);
       writes = λ pc i v q. write pc (has_filter keeps a.store.commands pc i).0 v q;
       reads = λ pc i. h.reads pc (has_filter keeps a.store.commands pc i).0;
+      first = h.first;
+      above = λ pc i. h.above pc (has_filter keeps a.store.commands pc i).0;
       below = λ pc i. h.below pc (has_filter keeps a.store.commands pc i).0;
       once = λ pc qc i j. h.once pc qc (has_filter keeps a.store.commands pc i).0 (has_filter keeps a.store.commands qc j).0;
       versions = λ ino q d i. version ino q d (Place_is f.ino p ino q) refl i;
@@ -233,8 +275,16 @@ written_cared past cs es c starts next a f p bytes ch sv h =
     none_some : (n : ℕ) → ◌≡◌ {A = Option ℕ} None (Some n) → ⊥
     none_some n z = cc
 
+    no_entry : (ino : ℕ) (q : PageNo) → Place_is f.ino p ino q ≡ false → ev.is_entry_of c (file_at a ino) q e ≡ false
+    no_entry ino q z = three (same_client c c) (same_server f.server a.server) (f.ino == ino) (same_page p q) z
+      where
+        three : (x y u t : Bool) → (u && t) ≡ false → (x && ((y && u) && t)) ≡ false
+        three true true u t z = z
+        three true false u t z = refl
+        three false y u t z = refl
+
     fail : (ino : ℕ) (q : PageNo) (d : DirtyPage) (n : ℕ) (x : Bool) → Place_is f.ino p ino q ≡ x → now ino q ≡ Some d → d.failed ≡ Some n →
-        (pages.is_being_written (filter keeps a.store.commands) ino q ≡ true) ⊎ (list_any (reports_failure (last_write cs (owner_at_page c a ino q))) past ≡ true)
+        (pages.is_being_written (filter keeps a.store.commands) ino q ≡ true) ⊎ LastFailed past cs (es ++ e ∷ []) (owner_at_page c a ino q) n
     fail ino q d n true z i w = absurd (none_some n (sym (ap (λ (y : DirtyPage). y.failed) (its ino q d z i)) ∙ w))
     fail ino q d n false z i w = kept (h.failed ino q d n (old ino q d z i) w)
       where
@@ -245,10 +295,10 @@ written_cared past cs es c starts next a f p bytes ch sv h =
             go true v = refl
             go false v = cc
 
-        kept : (pages.is_being_written a.store.commands ino q ≡ true) ⊎ (list_any (reports_failure (last_write cs (owner_at_page c a ino q))) past ≡ true) →
-            (pages.is_being_written (filter keeps a.store.commands) ino q ≡ true) ⊎ (list_any (reports_failure (last_write cs (owner_at_page c a ino q))) past ≡ true)
+        kept : (pages.is_being_written a.store.commands ino q ≡ true) ⊎ LastFailed past cs es (owner_at_page c a ino q) n →
+            (pages.is_being_written (filter keeps a.store.commands) ino q ≡ true) ⊎ LastFailed past cs (es ++ e ∷ []) (owner_at_page c a ino q) n
         kept (inl v) = inl (any_kept (pages.is_write_of ino q) keeps a.store.commands writes_stay v)
-        kept (inr v) = inr v
+        kept (inr v) = inr (entry_failed past cs es (owner_at_page c a ino q) n e (no_entry ino q z) v)
 
     write : (pc : PageCommand) → Has pc a.store.commands → (v : ℕ) → pc.kind ≡ io.Write v → WriteCared cs (es ++ e ∷ []) c starts b pc v
     write pc i v q =
@@ -259,18 +309,10 @@ written_cared past cs es c starts next a f p bytes ch sv h =
           link = λ d y. linked (Place_is f.ino p pc.ino pc.page) refl d y w.link;
         }
       where
-        no_entry : Place_is f.ino p pc.ino pc.page ≡ false → ev.is_entry_of c (file_at a pc.ino) pc.page e ≡ false
-        no_entry z = three (same_client c c) (same_server f.server a.server) (f.ino == pc.ino) (same_page p pc.page) z
-          where
-            three : (x y u t : Bool) → (u && t) ≡ false → (x && ((y && u) && t)) ≡ false
-            three true true u t z = z
-            three true false u t z = refl
-            three false y u t z = refl
-
         late : (x : Bool) → Place_is f.ino p pc.ino pc.page ≡ x → v < a.store.pages.next_version → (index : ℕ) → ((d : DirtyPage) → pages.dirty_of a.store.pages pc.ino pc.page ≡ Some d → d.version ≡ v → index ≡ latest es c (file_at a pc.ino) pc.page) →
             (d : DirtyPage) → now pc.ino pc.page ≡ Some d → d.version ≡ v → index ≡ latest (es ++ e ∷ []) c (file_at a pc.ino) pc.page
         late true z low index g d y u = let n = ap (λ (k : DirtyPage). k.version) (its pc.ino pc.page d z y) in absurd (omega (arith, low, n, u))
-        late false z low index g d y u = g d (old pc.ino pc.page d z y) u ∙ sym (latest_stays c (file_at a pc.ino) pc.page es e (no_entry z))
+        late false z low index g d y u = g d (old pc.ino pc.page d z y) u ∙ sym (latest_stays c (file_at a pc.ino) pc.page es e (no_entry pc.ino pc.page z))
 
         linked : (x : Bool) → Place_is f.ino p pc.ino pc.page ≡ x → (d : DirtyPage) → now pc.ino pc.page ≡ Some d → ((d : DirtyPage) → pages.dirty_of a.store.pages pc.ino pc.page ≡ Some d → (d.version ≡ v) ⊎ (d.failed ≡ None)) → (d.version ≡ v) ⊎ (d.failed ≡ None)
         linked true z d y g = inr (ap (λ (k : DirtyPage). k.failed) (its pc.ino pc.page d z y))
@@ -312,10 +354,12 @@ submitted_cared past cs es c starts next a ino p d x is di dp free num xc xl car
       entries = h.entries;
       writes = λ pc i v q. writes pc v q (has_append a.store.commands (new ∷ []) pc i);
       reads = λ pc i q k y j s. reads pc q k y j s (has_append a.store.commands (new ∷ []) pc i);
+      first = omega arith;
+      above = λ pc i. above pc (has_append a.store.commands (new ∷ []) pc i);
       below = λ pc i. below pc (has_append a.store.commands (new ∷ []) pc i);
       once = λ pc qc i j v u q r m n. once pc qc v u q r m n (has_append a.store.commands (new ∷ []) pc i) (has_append a.store.commands (new ∷ []) qc j);
       versions = h.versions;
-      failed = λ j q e n i w. fail j q (Place_is d.ino d.page j q) refl (λ z. h.failed j q e n i w);
+      failed = λ j q e n i w. fail j q n (Place_is d.ino d.page j q) refl (λ z. h.failed j q e n i w);
     }
   where
     new : PageCommand
@@ -405,6 +449,11 @@ submitted_cared past cs es c starts next a ino p d x is di dp free num xc xl car
         no z = cc
     reads pc q k y j s (inr (inr e)) = absurd e
 
+    above : (pc : PageCommand) → Has pc a.store.commands ⊎ Has pc (new ∷ []) → 1 ≤ pc.number
+    above pc (inl i) = h.above pc i
+    above pc (inr (inl e)) = let z = ap (λ (w : PageCommand). w.number) e in let y = h.first in omega (arith, z, y)
+    above pc (inr (inr e)) = absurd e
+
     below : (pc : PageCommand) → Has pc a.store.commands ⊎ Has pc (new ∷ []) → pc.number < next + 1
     below pc (inl i) = let z = h.below pc i in omega (arith, z)
     below pc (inr (inl e)) = let z = ap (λ (w : PageCommand). w.number) e in omega (arith, z)
@@ -426,15 +475,15 @@ submitted_cared past cs es c starts next a ino p d x is di dp free num xc xl car
     once pc qc v u q r m n (inr (inl e)) (inr (inr f)) = absurd f
     once pc qc v u q r m n (inr (inr e)) j = absurd e
 
-    fail : (j : ℕ) (q : PageNo) (t : Bool) → Place_is d.ino d.page j q ≡ t → (t ≡ false → (pages.is_being_written a.store.commands j q ≡ true) ⊎ (list_any (reports_failure (last_write cs (owner_at_page c a j q))) past ≡ true)) →
-        (pages.is_being_written (a.store.commands ++ new ∷ []) j q ≡ true) ⊎ (list_any (reports_failure (last_write (cs ++ x ∷ []) (owner_at_page c a j q))) past ≡ true)
-    fail j q true z g = inl (any_back (pages.is_write_of j q) a.store.commands new z)
-    fail j q false z g = kept (g refl)
+    fail : (j : ℕ) (q : PageNo) (n : ℕ) (t : Bool) → Place_is d.ino d.page j q ≡ t → (t ≡ false → (pages.is_being_written a.store.commands j q ≡ true) ⊎ LastFailed past cs es (owner_at_page c a j q) n) →
+        (pages.is_being_written (a.store.commands ++ new ∷ []) j q ≡ true) ⊎ LastFailed past (cs ++ x ∷ []) es (owner_at_page c a j q) n
+    fail j q n true z g = inl (any_back (pages.is_write_of j q) a.store.commands new z)
+    fail j q n false z g = kept (g refl)
       where
-        kept : (pages.is_being_written a.store.commands j q ≡ true) ⊎ (list_any (reports_failure (last_write cs (owner_at_page c a j q))) past ≡ true) →
-            (pages.is_being_written (a.store.commands ++ new ∷ []) j q ≡ true) ⊎ (list_any (reports_failure (last_write (cs ++ x ∷ []) (owner_at_page c a j q))) past ≡ true)
+        kept : (pages.is_being_written a.store.commands j q ≡ true) ⊎ LastFailed past cs es (owner_at_page c a j q) n →
+            (pages.is_being_written (a.store.commands ++ new ∷ []) j q ≡ true) ⊎ LastFailed past (cs ++ x ∷ []) es (owner_at_page c a j q) n
         kept (inl w) = inl (any_front (pages.is_write_of j q) a.store.commands (new ∷ []) w)
-        kept (inr w) = inr (ap (λ m. list_any (reports_failure m) past) (last_stays (owner_at_page c a j q) cs x (other j q z)) ∙ w)
+        kept (inr w) = inr (command_failed past cs es (owner_at_page c a j q) n x (other j q z) w)
 
 -- a read is submitted: it is outstanding, and carries nothing
 pub read_cared : (past : List Step) (cs : List IssuedCommand) (es : List LogEntry) (c : ClientId) (starts next : ℕ) (a : Association) (ino : ℕ) (p : PageNo) (x : IssuedCommand) → x.number ≡ next → x.carries ≡ None → NumbersBelow cs c starts next → Cared past cs es c starts next a →
@@ -445,10 +494,12 @@ read_cared past cs es c starts next a ino p x num none nb h =
       entries = h.entries;
       writes = λ pc i v q. writes pc v q (has_append a.store.commands (new ∷ []) pc i);
       reads = λ pc i q k y j s. reads pc q k y j s (has_append a.store.commands (new ∷ []) pc i);
+      first = omega arith;
+      above = λ pc i. above pc (has_append a.store.commands (new ∷ []) pc i);
       below = λ pc i. below pc (has_append a.store.commands (new ∷ []) pc i);
       once = λ pc qc i j v u q r m n. once pc qc v u q r m n (has_append a.store.commands (new ∷ []) pc i) (has_append a.store.commands (new ∷ []) qc j);
       versions = h.versions;
-      failed = λ j q d n i w. fail j q (g.failed j q d n i w);
+      failed = λ j q d n i w. fail j q n (g.failed j q d n i w);
     }
   where
     new : PageCommand
@@ -480,6 +531,11 @@ read_cared past cs es c starts next a ino p x num none nb h =
         at (inr j) = ap (λ (w : IssuedCommand). w.carries) j.1 ∙ none
     reads pc q k y j s (inr (inr e)) = absurd e
 
+    above : (pc : PageCommand) → Has pc a.store.commands ⊎ Has pc (new ∷ []) → 1 ≤ pc.number
+    above pc (inl i) = h.above pc i
+    above pc (inr (inl e)) = let z = ap (λ (w : PageCommand). w.number) e in let y = h.first in omega (arith, z, y)
+    above pc (inr (inr e)) = absurd e
+
     below : (pc : PageCommand) → Has pc a.store.commands ⊎ Has pc (new ∷ []) → pc.number < next + 1
     below pc (inl i) = g.below pc i
     below pc (inr (inl e)) = let z = ap (λ (w : PageCommand). w.number) e in omega (arith, z)
@@ -492,7 +548,7 @@ read_cared past cs es c starts next a ino p x num none nb h =
     once pc qc v u q r m n (inr (inl e)) j = absurd (no_write pc v e q)
     once pc qc v u q r m n (inr (inr e)) j = absurd e
 
-    fail : (j : ℕ) (q : PageNo) → (pages.is_being_written a.store.commands j q ≡ true) ⊎ (list_any (reports_failure (last_write (cs ++ x ∷ []) (owner_at_page c a j q))) past ≡ true) →
-        (pages.is_being_written (a.store.commands ++ new ∷ []) j q ≡ true) ⊎ (list_any (reports_failure (last_write (cs ++ x ∷ []) (owner_at_page c a j q))) past ≡ true)
-    fail j q (inl w) = inl (any_front (pages.is_write_of j q) a.store.commands (new ∷ []) w)
-    fail j q (inr w) = inr w
+    fail : (j : ℕ) (q : PageNo) (n : ℕ) → (pages.is_being_written a.store.commands j q ≡ true) ⊎ LastFailed past (cs ++ x ∷ []) es (owner_at_page c a j q) n →
+        (pages.is_being_written (a.store.commands ++ new ∷ []) j q ≡ true) ⊎ LastFailed past (cs ++ x ∷ []) es (owner_at_page c a j q) n
+    fail j q n (inl w) = inl (any_front (pages.is_write_of j q) a.store.commands (new ∷ []) w)
+    fail j q n (inr w) = inr w

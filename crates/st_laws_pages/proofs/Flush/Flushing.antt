@@ -1,6 +1,6 @@
 -- The flush through a step of a client: what holds of all its associations, in the world that its outputs leave.
 use Rattle.st_lemmas.proofs.Words
-use Words.{◌≡◌, ℕ, ◌+◌, Bool, true, false, List, [], ◌∷◌, Option, Some, None, refl, sym, ap, ◌∙◌, subst, inl, inr, arith, find, map, nat_le, leb-false, Config}
+use Words.{◌≡◌, ℕ, ◌+◌, ◌≤◌, Bool, true, false, List, [], ◌∷◌, Option, Some, None, refl, sym, ap, ◌∙◌, subst, inl, inr, arith, find, map, nat_le, leb-false, Config}
 use Words.{ClientId, Life, Stamp, ClientInput, LogEntry, LogOwner, DirtyPage, LeaseLife}
 use Words.inputs
 use Words.ClientLease as lease
@@ -8,7 +8,7 @@ use Words.ClientPages as pages
 use Words.ClientPasses as cp
 use Words.Client as cl
 use Words.ClientState as state
-use Words.ClientState.{Association, ClientState, ClientSession, ClientTurn, Turn, client_turn, is_at}
+use Words.ClientState.{Association, ClientState, ClientSession, ClientTurn, client_turn, is_at}
 use Words.World as world
 use Words.World.{World, WorldClient, numbered, site_of}
 use Words.Events as ev
@@ -56,13 +56,15 @@ none_next w c site there h a i o j e f l = go (h.known.owners o j)
         omega (arith, y, q, l)
 
 -- an association in its next life, with nothing, has nothing to care for
-pub emptied_cared : (past : List Step) (w : World) (c : ClientId) (site : WorldClient) (starts next : ℕ) → numbered w.clients c.0 ≡ Some site → LivesHold w → (a b : Association) → Has a site.node.state.associations → a.server ≡ b.server → cl.next_life a.life ≡ b.life → b.store ≡ pages.empty_store →
+pub emptied_cared : (past : List Step) (w : World) (c : ClientId) (site : WorldClient) (starts next : ℕ) → 1 ≤ next → numbered w.clients c.0 ≡ Some site → LivesHold w → (a b : Association) → Has a site.node.state.associations → a.server ≡ b.server → cl.next_life a.life ≡ b.life → b.store ≡ pages.empty_store →
     Cared past w.commands w.log c starts next b
-emptied_cared past w c site starts next there h a b i sv lf st =
+emptied_cared past w c site starts next one there h a b i sv lf st =
     record {
       entries = pending_known Any (DirtyHere c b) w.log (λ o j z u v l. absurd (none_next w c site there h a i o j u (v ∙ sym sv) (ap (λ (x : Life). x.0) (l ∙ sym lf)))) (any_pending w.log);
       writes = λ pc j v q. absurd (none pc j);
       reads = λ pc j q. absurd (none pc j);
+      first = one;
+      above = λ pc j. absurd (none pc j);
       below = λ pc j. absurd (none pc j);
       once = λ pc qc j k. absurd (none pc j);
       versions = λ ino p d e. absurd (clean ino p d e);
@@ -85,7 +87,7 @@ emptied_cared past w c site starts next there h a b i sv lf st =
         no : ◌≡◌ {A = Option DirtyPage} None (Some d) → ⊥
         no z = cc
 
--- What is reported about the command that ends, where an input is its end.
+-- What is reported about the command that ends, if an input is its end.
 abbrev pub InputTold : List Step → WorldTurn → ClientId → ℕ → ClientInput → Type 0
 InputTold past sc c starts (inputs.Done number result) = Told past sc c starts number (is_done result)
 InputTold past sc c starts input = Unit {0}
@@ -104,7 +106,7 @@ open_on k now (Some s) (Some u) n e = below (nat_le (lease.end_of k u.lease).0 n
     below false q = refl
     below true q = let z = Rattle.std.proofs.Common.leb-true _ _ q in let y = leb-false (lease.end_of k s.lease).0 now.0 e in absurd (omega (arith, z, y, n))
 
--- What a step leaves of each association: where its lease is not over; and where it drains each dirty page is covered.
+-- What a step leaves of each association: its lease is not over; and if it may drain, each dirty page is covered.
 pub record FlushedBy (k : Config) (now : Stamp) (b : Association) : Type 0 where
   pub going : is_ended k now b.session ≡ false
   pub covered : (s : ClientSession) → b.session ≡ Some s → lease.may_drain (lease.standing_of k s.lease now) ≡ true → Covered b

@@ -1,7 +1,7 @@
 -- All associations of a client, through changes at one of its servers: what holds of each, in the world after the outputs so far.
 use Rattle.st_lemmas.proofs.Words
 use Words.{◌≡◌, ℕ, ◌+◌, ◌<◌, ◌⊎◌, Bool, true, false, ◌&&◌, List, [], ◌∷◌, ◌++◌, ◌==◌, Some, refl, sym, ap, ◌∙◌, subst, inl, inr, arith, list_any, ne_eqb}
-use Words.{ClientId, FileId, PageNo, ServerId, Stamp, PageCommand, DiskCommand, LogEntry, IssuedCommand}
+use Words.{ClientId, FileId, PageNo, ServerId, Stamp, DiskCommand, LogEntry, IssuedCommand}
 use Words.Keys.{same_client, same_server}
 use Words.FlatLog as log
 use Words.Disks as disks
@@ -39,10 +39,10 @@ cared_in past cs ds es gs c starts next b p q h = subst (λ x. Cared past x gs c
 entry_apart : (past : List Step) (cs ds : List IssuedCommand) (es gs : List LogEntry) (c : ClientId) (starts : ℕ) (t : Turn) (f : FileId) (p : PageNo) (next : ℕ) (b : Association) → f.server ≡ t.here.server → (b.server.0 ≡ t.here.server.0 → ⊥) → AddsEntry c t f p cs ds es gs →
     Cared past cs es c starts next b → Cared past ds gs c starts next b
 entry_apart past cs ds es gs c starts t f p next b own n z h =
-    cared_in past cs ds _ gs c starts next b z.commands z.log (entry_elsewhere past cs es c starts next b (log.pending (log.owner c t.here.life f p) z.change) (λ q u v w. absurd (n (ap (λ (s : ServerId). s.0) (sym v ∙ own)))) (λ pc i. none pc) h)
+    cared_in past cs ds _ gs c starts next b z.commands z.log (entry_elsewhere past cs es c starts next b (log.pending (log.owner c t.here.life f p) z.change) (λ q u v w. absurd (n (ap (λ (s : ServerId). s.0) (sym v ∙ own)))) none h)
   where
-    none : (pc : PageCommand) → ev.is_entry_of c (file_at b pc.ino) pc.page (log.pending (log.owner c t.here.life f p) z.change) ≡ false
-    none pc = go (same_client c c) (same_server f.server b.server) (f.ino == pc.ino) (Rattle.st_rules.specs.Keys.same_page p pc.page) (ne_eqb f.server.0 b.server.0 (λ e. n (sym e ∙ ap (λ (s : ServerId). s.0) own)))
+    none : (ino : ℕ) (q : PageNo) → ev.is_entry_of c (file_at b ino) q (log.pending (log.owner c t.here.life f p) z.change) ≡ false
+    none ino q = go (same_client c c) (same_server f.server b.server) (f.ino == ino) (Rattle.st_rules.specs.Keys.same_page p q) (ne_eqb f.server.0 b.server.0 (λ e. n (sym e ∙ ap (λ (s : ServerId). s.0) own)))
       where
         go : (x y u v : Bool) → y ≡ false → (x && ((y && u) && v)) ≡ false
         go true false u v e = refl

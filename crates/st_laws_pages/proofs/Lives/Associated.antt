@@ -1,4 +1,4 @@
--- A fact of associations holds in every run, where each rule of a client keeps it of associations that fit, and an empty association has it.
+-- A fact of associations holds in every run if each rule of a client keeps it of associations that fit, and an empty association has it.
 use Rattle.st_lemmas.proofs.Words
 use Words.{◌≡◌, ◌≢◌, ◌⊎◌, ℕ, Bool, List, [], ◌∷◌, ◌++◌, Option, Some, None, Result, Ok, Err, refl, sym, ap, ◌∙◌, subst, inl, inr, map, Config, ClientId, Stamp}
 use Words.{Event, ClientInput, WorldRefusal, DirtyPage, Ask, Body, Header, Tag, ServerId}
@@ -101,7 +101,7 @@ module _ (F : Association → Type 0) (empty : (a : Association) → a.session �
   all_empty : {A : Type 0} (f : A → Association) → ((x : A) → Fit (f x) × ((f x).session ≡ None) × ((f x).store ≡ pages.empty_store)) → (xs : List A) → EachHas (map f xs)
   all_empty f n xs a i = let z = has_map f xs a i in let y = n z.0 in subst H (sym z.2) (y.0, empty (f z.0) y.1 y.2)
 
-  -- One client is another.
+  -- One client is replaced.
   replaced : (w v : World) (c : ClientId) (old new : WorldClient) → site_of w c ≡ Some old → v.clients ≡ with_numbered c.0 new w.clients → EachHas new.node.state.associations → AllHave w → AllHave v
   replaced w v c old new there cs n h d site e = go (same_or_not d.0 c.0)
     where

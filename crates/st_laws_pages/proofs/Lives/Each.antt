@@ -1,4 +1,4 @@
--- What holds of a world holds after each event, where it does so in a few cases.
+-- What holds of a world holds after each event if it does so in a few cases.
 use Rattle.st_lemmas.proofs.Words
 use Words.{◌≡◌, ℕ, Bool, true, false, List, [], ◌∷◌, ◌++◌, Option, Some, None, Ok, Err, refl, if◌then◌else◌, Result, ClientId, FileId, PageNo, ServerId, NodeId}
 use Words.{Message, Event, Note, Output, ClientInput, ServerInput, StepRefusal, Carried, IssuedCommand, SentMessage}

@@ -1,4 +1,4 @@
--- What was late stays late where a client crashes.
+-- What was late stays late when a client crashes.
 use Rattle.st_lemmas.proofs.Words
 use Words.{◌≡◌, Bool, true, false, ◌&&◌, List, [], ◌∷◌, ◌++◌, ◌==◌, Option, Some, None, refl, sym, ap, ◌∙◌, if◌then◌else◌, find, map, set, pred, eqb-true}
 use Words.{eq-eqb, Config, ClientId, ServerId, Life, Stamp, LeaseLife}

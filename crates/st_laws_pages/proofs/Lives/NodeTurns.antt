@@ -1,4 +1,4 @@
--- The lives in the world where a client's node turns into another: in a step, a crash or a start.
+-- The lives in the world when a client's node turns into another: in a step, a crash or a start.
 use Rattle.st_lemmas.proofs.Words
 use Words.{◌≡◌, ◌≢◌, ℕ, ◌≤◌, ◌⊎◌, Bool, true, false, ◌&&◌, List, [], ◌∷◌, ◌++◌, ◌==◌, Option, Some, None, refl, sym, ap, ◌∙◌, subst, inl, inr, arith}
 use Words.{if◌then◌else◌, find, eqb-true, Config, ClientId, ServerId, Life, Stamp, LogOwner, IssuedCommand, LeaseLife}

@@ -82,7 +82,7 @@ record LockedAfter (sc : WorldTurn) : Type 0 where
   pub locked : list_all (is_cut_locked sc.world.servers) sc.seen ≡ true
   pub holds : WaitsHold sc.world
 
--- where the servers are as they were
+-- if the servers are as they were
 same_servers : (w v : World) → v.servers ≡ w.servers → WaitsHold w → WaitsHold v
 same_servers w v e h = λ s n q. h s n (ap (λ ns. numbered ns s.0) (sym e) ∙ q)
 

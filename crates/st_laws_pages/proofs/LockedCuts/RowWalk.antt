@@ -68,7 +68,7 @@ pub record Behind (s : ServerId) (t : ServerTurn) : Type 0 where
   pub waits : WaitsApart t.state.locks
   pub cuts : CutsHeld s t.state.locks t.out
 
--- what is owed where the input is a reassertion
+-- what is owed if the input is a reassertion
 abbrev pub InputAlone : ServerTurn → Stamp → ServerInput → Type 0
 InputAlone t now Tick = Unit {0}
 InputAlone t now (Control m) = WaitsForNone t now m.header m.body

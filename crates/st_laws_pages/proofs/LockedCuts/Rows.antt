@@ -66,7 +66,7 @@ forget_apart l c h = λ w i r e x. let z = has_filter (λ y. not (locks.is_wait_
     kept w n = find_kept (is_row_of w.client w.ino) (λ y. not (locks.is_row_by c y)) (λ y q. ap not
         (ap (λ d. same_client d c) (key_is y.client y.ino w.client w.ino q).0 ∙ n)) l.rows
 
--- Rows that change, each of the same client and file, and exclusive only where it was.
+-- Rows that change, each of the same client and file, and exclusive only if it was.
 record SameKeys (f : LockRow → LockRow) : Type 0 where
   pub client : (r : LockRow) → (f r).client ≡ r.client
   pub ino : (r : LockRow) → (f r).ino ≡ r.ino

@@ -64,7 +64,7 @@ listed_with a b s n tag h i d = record { server = h.server ∙ s; command = h.co
 same_listed : (a b : Association) → a.server ≡ b.server → a.store.commands ≡ b.store.commands → a.store.pages.dirty ≡ b.store.pages.dirty → (n : ℕ) (tag : Tag) → IsListed a n tag → IsListed b n tag
 same_listed a b s e q n tag h = listed_with a b s n tag h (subst (Has h.command) e h.here) (h.dirty, ap (find (pages.is_dirty_of h.command.ino h.command.page)) (sym q) ∙ h.dirty_is)
 
--- what is found is found after a page is put, where that has the place of the page that it replaces
+-- what is found is found after a page is put, if that has the place of the page that it replaces
 found_put : (p q : DirtyPage → Bool) (x : DirtyPage) → ((z : DirtyPage) → q z ≡ true → p z ≡ true → p x ≡ true) → (xs : List DirtyPage) (d : DirtyPage) → find p xs ≡ Some d → (y : DirtyPage) × (find p (put q x xs) ≡ Some y)
 unfolding put
 found_put p q x f [] d e = cc
@@ -239,7 +239,7 @@ ends_keep number ok t _ once (Hardens pc v e o k w) = keeps_without_command numb
         let a = one_place pc.ino pc.page h.command.ino h.command.page q in
         let z = found_at (pages.is_numbered number) t.here.store.commands pc e in
         absurd (f (sym h.number_is ∙ sym (once pc h.command z.1 h.here v h.version k h.kind a.0 a.1) ∙ eqb-true pc.number number z.0))
-ends_keep number ok t _ once (Fails pc v e o k) =
+ends_keep number ok t _ once (Fails pc v e o k w) =
     keeps_without_command number t _ refl refl refl
     (λ n tag f h. found_map (pages.is_dirty_of h.command.ino h.command.page) (pages.fail_of pc.ino pc.page pc.number)
     (place_failed pc.ino pc.page pc.number h.command.ino h.command.page) t.here.store.pages.dirty h.dirty h.dirty_is)

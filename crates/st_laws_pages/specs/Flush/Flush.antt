@@ -54,19 +54,30 @@ pub record WriteCared (cs : List IssuedCommand) (es : List LogEntry) (c : Client
 abbrev pub DirtyHere : ClientId → Association → LogOwner → Type 0
 DirtyHere c a o = o.client ≡ c → o.file.server ≡ a.server → o.life ≡ a.life → (d : DirtyPage) × (pages.dirty_of a.store.pages o.file.ino o.page ≡ Some d)
 
+-- The last write of an owner's page is the client's command of this number, which carried the latest entry and was reported failed.
+pub record LastFailed (past : List Step) (cs : List IssuedCommand) (es : List LogEntry) (o : LogOwner) (number : ℕ) : Type 0 where
+  pub told : list_any (reports_failure (last_write cs o)) past ≡ true
+  pub command : IssuedCommand
+  pub is : numbered cs (last_write cs o) ≡ Some command
+  pub number_is : command.number ≡ number
+  pub first : 1 ≤ number
+  pub carries : command.carries ≡ Some (record { file = o.file; page = o.page; index = latest es o.client o.file o.page })
+
 -- What holds of an association: what is pending of its life is dirty; its outstanding commands are the world's; and the failed command of a dirty page of which
--- no write is outstanding is the last write of the page, and was reported failed.
+-- no write is outstanding is the last write of the page, which carried its latest entry and was reported failed.
 pub record Cared (past : List Step) (cs : List IssuedCommand) (es : List LogEntry) (c : ClientId) (starts next : ℕ) (a : Association) : Type 0 where
   pub entries : PendingAll (DirtyHere c a) es
   pub writes : (pc : PageCommand) → Has pc a.store.commands → (v : ℕ) → pc.kind ≡ io.Write v → WriteCared cs es c starts a pc v
   pub reads : (pc : PageCommand) → Has pc a.store.commands → pc.kind ≡ io.Read → (k : ℕ) (x : IssuedCommand) → numbered cs k ≡ Some x →
       IsIts c starts pc.number x → x.carries ≡ None
+  pub first : 1 ≤ next
+  pub above : (pc : PageCommand) → Has pc a.store.commands → 1 ≤ pc.number
   pub below : (pc : PageCommand) → Has pc a.store.commands → pc.number < next
   pub once : (pc qc : PageCommand) → Has pc a.store.commands → Has qc a.store.commands → (v u : ℕ) → pc.kind ≡ io.Write v → qc.kind ≡ io.Write u →
       pc.ino ≡ qc.ino → pc.page ≡ qc.page → pc.number ≡ qc.number
   pub versions : (ino : ℕ) (p : PageNo) (d : DirtyPage) → pages.dirty_of a.store.pages ino p ≡ Some d → d.version < a.store.pages.next_version
   pub failed : (ino : ℕ) (p : PageNo) (d : DirtyPage) (n : ℕ) → pages.dirty_of a.store.pages ino p ≡ Some d → d.failed ≡ Some n →
-      (pages.is_being_written a.store.commands ino p ≡ true) ⊎ (list_any (reports_failure (last_write cs (owner_at_page c a ino p))) past ≡ true)
+      (pages.is_being_written a.store.commands ino p ≡ true) ⊎ LastFailed past cs es (owner_at_page c a ino p) n
 
 -- the numbers of the commands of the instance that runs are below the next
 abbrev pub NumbersBelow : List IssuedCommand → ClientId → ℕ → ℕ → Type 0

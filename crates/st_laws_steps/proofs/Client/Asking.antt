@@ -24,7 +24,7 @@ use Rattle.st_laws_steps.proofs.Client.Passing.{changes, Says, Operates, Follows
 use Rattle.st_laws_steps.proofs.Client.Passing.{one, both, if_changes, wider}
 use Rattle.st_laws_steps.proofs.Client.Working.{operations_only_keep, reductions_only_keep, writes_only_keep, greeting_only_keep}
 
--- what an operation asks: where a page lies, only where nothing is known of it; and a file is cut where it is idle
+-- what an operation asks: where a page lies, only if nothing is known of it; and a file is cut if it is idle
 record Wants (s : ClientSession) (st : Store) (w : cp.Wanted) : Type 0 where
   pub asks : (x : ℕ × PageNo) → map_in w.body ≡ Some x → pages.known_of st.extents x.0 x.1 ≡ None
   pub new : reasserts w.body ≡ false
@@ -256,7 +256,7 @@ module _ (now : Stamp) where
       go None e = Still t
       go (Some s) e = if_changes s.lease.condemned t t _ (λ b. Still t) (λ b. at s s.requests.asked e refl)
 
-  -- all passes those after the operations, where no sync is answered hard
+  -- all passes those after the operations, if no sync is answered hard
   pub rest_keep_or_ask : (tick : Bool) (t : Turn) → Changes [] KeepsOrAsks now t
       (cp.requests now tick (cp.greeting now tick (cp.writes now tick (cp.reductions t))))
   rest_keep_or_ask tick t = both (any OnlyKeeps (both (reductions_only_keep now t) (both (writes_only_keep now tick _) (greeting_only_keep now tick _))))

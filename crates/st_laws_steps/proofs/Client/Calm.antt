@@ -10,14 +10,14 @@ use Rattle.st_laws_steps.specs.Client.Client as client
 use Rattle.st_laws_steps.specs.Client.Client.{Change, GoesOn, IsBegun, Plain, Unasked, Unhard, UnhardAnswer, with_greeted}
 use Rattle.st_laws_steps.proofs.Client.Only.{Only, all, joined, single, Ends}
 
--- what is said: a message or a note only where a message is received, and no answer that a sync is hard
+-- what is said: a message or a note only if a message is received, and no answer that a sync is hard
 abbrev pub SaysCalm : Bool → Output → Type 0
 SaysCalm receives (outputs.Note n) = receives ≡ true
 SaysCalm receives (outputs.Send m) = receives ≡ true
 SaysCalm receives o = Unhard o
 
--- Neither changes a page, nor submits a command, nor forgets a file, nor answers a sync hard. The session changes and extents are learned only where a
--- message is received, and the clean pages are others only where none is.
+-- Neither changes a page, nor submits a command, nor forgets a file, nor answers a sync hard. The session changes and extents are learned only if a
+-- message is received, and the clean pages change only if none is.
 abbrev pub IsCalm : Bool → (now : Stamp) (t u : Turn) → Change now t u → Type 0
 IsCalm receives now t _ (client.Says _ o p) = SaysCalm receives o
 IsCalm receives now t _ (client.Answers _ os ops a) = UnhardAnswer a

@@ -13,6 +13,7 @@ use Words.ClientLease as lease
 use Words.ClientPages as pages
 use Words.Client as cl
 use Words.ClientState.{ClientSession, Turn, note, is_at, is_sent, only_at, new_operation}
+use Words.Tables.{and_true}
 use Words.Truth.{not_both}
 use Words.Versions.{command_number}
 use Rattle.st_laws_steps.specs.Client.Client as client
@@ -156,7 +157,9 @@ end_is now number ok t c block e =
         (Rattle.st_rules.specs.ClientState.answer_each (cl.waits_for_write u c) (answers.DiskFault c.number) (if b then cl.with_failed c u else u))) (sym f)
         (record {
           mid = cl.with_failed c u;
-          ends = Fails c v e o k;
+          ends =
+              Fails c v e o k
+              (eqb-true version v (and_true (is_some (pages.dirty_of t.here.store.pages c.ino c.page)) (version == v) f).1);
           calm =
               changes_by_each_answer (cl.waits_for_write u c) (answers.DiskFault c.number) (cl.with_failed c u) tt;
         })

@@ -131,7 +131,7 @@ unfolding cl.hardened
 ends_silent number ok t _ Unknown = (refl, refl)
 ends_silent number ok t _ (Passes c e o) = (refl, refl)
 ends_silent number ok t _ (Hardens c v e o k w) = (refl, refl)
-ends_silent number ok t _ (Fails c v e o k) = (refl, refl)
+ends_silent number ok t _ (Fails c v e o k w) = (refl, refl)
 
 finish_more : (now : Stamp) (number : ℕ) (result : Option (Option (Tag × List ℕ))) (t : Turn) → More (NotesAll (IsChanged t.config now (cl.finish number result t).here)) t.out (cl.finish number result t).out
 finish_more now number result t = go (finish_is now number result t)

@@ -78,7 +78,7 @@ abbrev pub Uncut : Turn → ℕ → Type 0
 Uncut t ino = (s : ClientSession) → t.here.session ≡ Some s → s.cutting ≡ Some ino → ⊥
 
 -- Neither begins a session, nor learns where a page lies, nor tells or answers anybody of what was lost; it answers hard only these syncs, and asks only
--- where it may; no clean page is new, and pages are changed and read of no file that is cut.
+-- if it may; no clean page is new, and pages are changed and read of no file that is cut.
 abbrev pub IsPassing : List Operation → Part → (now : Stamp) (t u : Turn) → Change now t u → Type 0
 IsPassing syncs asks now t _ (client.Says _ o p) = SaysRight syncs now t o
 IsPassing syncs asks now t _ (client.Answers _ os ops a) = ⊥

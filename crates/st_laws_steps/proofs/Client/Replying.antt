@@ -74,7 +74,7 @@ date_renewed stamp l = go (lease.is_renewal stamp l) refl
     go true e = let z = ltb-true l.date.0 stamp.0 (and_true (not l.condemned) (nat_lt l.date.0 stamp.0) e).1 in omega (arith, z)
     go false e = omega arith
 
--- nothing is known of the page of which a request asks where it lies
+-- nothing is known of the page whose place a request asks for
 abbrev Fresh : Store → Body → Type 0
 Fresh st asked = (x : ℕ × PageNo) → map_in asked ≡ Some x → pages.known_of st.extents x.0 x.1 ≡ None
 

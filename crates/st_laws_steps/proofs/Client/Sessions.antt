@@ -1,5 +1,5 @@
--- A fact of a session through the rules of a client: it holds again where each change of the session keeps it. The rules that ask nothing leave the requests of
--- a session, so a fact holds again through them where it does so whenever a session asks nothing.
+-- A fact of a session through the rules of a client: it holds again if each change of the session keeps it. The rules that ask nothing leave the requests of
+-- a session, so a fact holds again through them if it does so whenever a session asks nothing.
 use Rattle.st_lemmas.proofs.Words
 use Words.{◌≡◌, ℕ, ◌<◌, Bool, true, false, List, [], Option, Some, None, subst, if◌then◌else◌, Tag, GrantNo, ServerId, Stamp, Mode, Ask, Body, Header, Asked}
 use Words.{KnownExtent, Operation}
@@ -59,13 +59,13 @@ module _ (Q : ServerId → ℕ → Option ClientSession → Type 0) where
     walked now t _ (only.Ends _) h = h
     walked now t v (only.Goes _ u _ c q r) h = walked now u v r (change_walked now t u c q h)
 
-  -- the end of a command, and what is done after it, where the session is left
+  -- the end of a command, and what is done after it, if the session is left
   ends_same : (number : ℕ) (ok : Bool) (t u : Turn) → Ends number ok t u → K t u
   unfolding cl.hardened
   ends_same number ok t _ Unknown h = h
   ends_same number ok t _ (Passes c e o) h = h
   ends_same number ok t _ (Hardens c v e o k w) h = h
-  ends_same number ok t _ (Fails c v e o k) h = h
+  ends_same number ok t _ (Fails c v e o k w) h = h
 
   idle : (now : Stamp) (t u : Turn) → Only (IsCalm false) now t u → K t u
   idle now t u cs = walked (IsCalm false) (λ now t s u e g q h. false_not_true q) (λ now t s a b c q. false_not_true q) now t u cs

@@ -199,7 +199,7 @@ ends_fit now number ok t _ (Hardens c v e o k w) = record { id = refl; config = 
     go : (ino : ℕ) (p : Rattle.st_base.specs.declared.ids.PageNo.PageNo) (d : DirtyPage) → Fit t.here → (o : Option DirtyPage) → pages.dirty_of (pages.harden_at t.here.store.pages o) ino p ≡ Some d → pages.is_mapped t.here.store.extents ino p ≡ true
     go ino p d f None i = f.mapped ino p d i
     go ino p d f (Some x) i = let z = Rattle.st_laws_steps.proofs.Client.Nexts.found_fewer (pages.is_dirty_of ino p) _ t.here.store.pages.dirty d i in f.mapped ino p z.0 z.1
-ends_fit now number ok t _ (Fails c v e o k) = record { id = refl; config = refl; server = refl; life = refl; session = session_same t.config now t.here.session; fit = λ f. record { mapped = λ ino p d i. go ino p d f i; fresh = fresh t.here.session f.fresh }; more = []; out = nothing_after t.out; unlost = record {} }
+ends_fit now number ok t _ (Fails c v e o k w) = record { id = refl; config = refl; server = refl; life = refl; session = session_same t.config now t.here.session; fit = λ f. record { mapped = λ ino p d i. go ino p d f i; fresh = fresh t.here.session f.fresh }; more = []; out = nothing_after t.out; unlost = record {} }
   where
     fresh : (s : Option ClientSession) → SessionFresh t.here.store s → SessionFresh (cl.with_failed c (without number t)).here.store s
     fresh None x = x

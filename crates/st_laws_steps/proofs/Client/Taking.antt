@@ -48,7 +48,7 @@ pub each : (P Q : Association → Type 0) (rule : Turn → Turn) → ((t : Turn)
 unfolding at_each
 each P Q rule k t h = these P Q rule k t.state.associations (with_associations [] t) (λ a i. absurd i) h
 
--- a fact of each association after an input, where a message that is received tells what its rule needs
+-- a fact of each association after an input, if a message that is received tells what its rule needs
 pub each_taken : (P : Association → Type 0) (T : Message → Association → Type 0) (now : Stamp) →
     ((s : ServerId) (op : ℕ) (ask : Ask) (u : Turn) → P u.here → P (only_at s (cl.take_ask op ask) u).here) →
     ((m : Message) (u : Turn) → P u.here → T m u.here → P (cr.receive_at now m.header m.body u).here) →

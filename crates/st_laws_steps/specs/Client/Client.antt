@@ -47,21 +47,21 @@ ChangesPage f p (notes.Accepted g q bytes) = (f ≡ g) × (p ≡ q)
 ChangesPage f p (notes.Patched g q at bytes) = (f ≡ g) × (p ≡ q)
 ChangesPage f p n = ⊥
 
--- the page of which a request asks where it lies
+-- the page whose place a request asks for
 abbrev pub map_in : Body → Option (ℕ × PageNo)
 map_in (bodies.Map ino g p) = Some (ino, p)
 map_in body = None
 
--- the page of which the outstanding request asks where it lies
+-- the page whose place the outstanding request asks for
 abbrev pub map_asked : Option Request → Option (ℕ × PageNo)
 map_asked None = None
 map_asked (Some q) = map_in q.body
 
--- where a page lies is asked only where nothing is known of it
+-- where a page lies is asked only if nothing is known of it
 abbrev pub Asks : Store → Option Request → Option Request → Type 0
 Asks st old new = (x : ℕ × PageNo) → map_asked new ≡ Some x → (map_asked old ≡ Some x) ⊎ (pages.known_of st.extents x.0 x.1 ≡ None)
 
--- another answer than hard
+-- an answer other than hard
 abbrev pub UnhardAnswer : AppAnswer → Type 0
 UnhardAnswer answers.Hard = ⊥
 UnhardAnswer a = Unit {0}
@@ -100,7 +100,7 @@ pub data Change (now : Stamp) : Turn → Turn → Type 0 where
   Answers : (t : Turn) (os ops : List Operation) (answer : AppAnswer) → Change now t (record t { operations = os; out = t.out ++ map (answer_to answer) ops })
   -- when it greeted
   Greets : (t : Turn) (g : Option Stamp) → Change now t (with_greeted g t)
-  -- the lost pages that nobody was told about are others
+  -- the lost pages that nobody was told about change
   TellsLost : (t : Turn) (lost : List LostPage) → Change now t (with_lost_rows lost t)
   -- a session begins, whose lease is not over
   Begins : (t : Turn) (s : ClientSession) → t.here.session ≡ None → now.0 < (lease.end_of t.config s.lease).0 → IsBegun s →
@@ -112,7 +112,7 @@ pub data Change (now : Stamp) : Turn → Turn → Type 0 where
       Change now t (with_store (record t.here.store { extents = pages.with_known e t.here.store.extents }) t)
   -- a file is forgotten from a page on, if it is idle
   Forgets : (t : Turn) (ino : ℕ) (p : PageNo) → pages.is_idle t.here.store ino ≡ true → Change now t (with_store (pages.forget_from t.here.store ino p) t)
-  -- the clean pages are others
+  -- the clean pages change
   Caches : (t : Turn) (clean : List CleanPage) → Change now t (with_store (record t.here.store { pages = record t.here.store.pages { clean = clean } }) t)
   -- a page is changed: under a lease that serves, if the page is known as mapped
   Writes : (t : Turn) (s : ClientSession) (f : FileId) (p : PageNo) (bytes : List ℕ) (n : Note) → t.here.session ≡ Some s →

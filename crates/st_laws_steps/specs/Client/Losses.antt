@@ -15,7 +15,7 @@ use Rattle.st_rules.specs.ClientState.{ClientSession, Association, Turn, note, w
 use Rattle.st_rules.specs.Client as cl
 use Rattle.st_laws_steps.specs.Client.Client.{map_asked, Changes}
 
--- nothing is known of the page of which the outstanding request asks where it lies
+-- nothing is known of the page whose place the outstanding request asks for
 abbrev pub AskedFresh : Store → Option Request → Type 0
 AskedFresh st asked = (x : ℕ × PageNo) → map_asked asked ≡ Some x → pages.known_of st.extents x.0 x.1 ≡ None
 
@@ -65,4 +65,4 @@ pub data Ends (number : ℕ) (ok : Bool) (t : Turn) : Turn → Type 0 where
       pages.version_of t.here.store.pages c.ino c.page ≡ v → Ends number ok t (cl.hardened (without number t) c)
   -- a write of the page as it is, which failed
   Fails : (c : PageCommand) (v : ℕ) → pages.command_of t.here.store.commands number ≡ Some c → ok ≡ false → c.kind ≡ io.Write v →
-      Ends number ok t (cl.with_failed c (without number t))
+      pages.version_of t.here.store.pages c.ino c.page ≡ v → Ends number ok t (cl.with_failed c (without number t))
