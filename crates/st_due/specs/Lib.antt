@@ -1,0 +1,3 @@
+-- From which moment on a tick does something.
+pub mod Moments
+pub mod ServerDue

@@ -1,0 +1,4 @@
+pub mod Moments
+pub mod Passes
+pub mod LockPasses
+pub mod Ticks
