@@ -35,7 +35,7 @@ abbrev pub closed_all : List Output → List (ℕ × Ask) → List (ℕ × Ask)
 closed_all [] ks = ks
 closed_all (o ∷ os) ks = closed_all os (closed_by o ks)
 
-closed_last : (os : List Output) (o : Output) (ks : List (ℕ × Ask)) → closed_all (os ++ o ∷ []) ks ≡ closed_by o (closed_all os ks)
+pub closed_last : (os : List Output) (o : Output) (ks : List (ℕ × Ask)) → closed_all (os ++ o ∷ []) ks ≡ closed_by o (closed_all os ks)
 closed_last [] o ks = refl
 closed_last (x ∷ os) o ks = closed_last os o (closed_by x ks)
 

@@ -76,10 +76,10 @@ lined_last w c (x ∷ os) o a =
     ∙ ap (told_all c (of_line w o)) (sym (told_both c (of_line w x) (flat_map (of_line w) os) a)))
 
 -- Outputs of a client: of its own asks, and of those of others.
-abbrev closes : List Output → AsksOf → AsksOf
+abbrev pub closes : List Output → AsksOf → AsksOf
 closes os a = record { count = a.count; pending = closed_all os a.pending }
 
-abbrev Line : Observation → Type 0
+abbrev pub Line : Observation → Type 0
 Line (seen.Answered c op answer) = ⊥
 Line o = Unit {0}
 
@@ -128,7 +128,7 @@ unfolding ev.submits
 submit_tells w c d None number at what sc a = refl
 submit_tells w c d (Some site) number at what sc a = one_line w d sc.seen _ a tt
 
-own_one : (w : World) (c : ClientId) (before : ClientState) (o : Output) (sc : WorldTurn) (a : AsksOf) →
+pub own_one : (w : World) (c : ClientId) (before : ClientState) (o : Output) (sc : WorldTurn) (a : AsksOf) →
     lined w c (ev.client_says sc c before o).seen a ≡ closes (o ∷ []) (lined w c sc.seen a)
 unfolding ev.client_says ev.sends ev.answers_with
 own_one w c before (outputs.Send m) sc a = one_line w c sc.seen _ a tt
@@ -354,7 +354,7 @@ all_counted c [] a h = h
 all_counted c (it ∷ its) a h = all_counted c its (told_by c it a) (told_counted c it a h)
 
 -- What is seen of the event itself.
-abbrev Dull : World → Event → Type 0
+abbrev pub Dull : World → Event → Type 0
 Dull w e = (c : ClientId) (a : AsksOf) → told_all c (of_event w e) a ≡ a
 
 failure_dull : (k : IssuedCommand) (carries : Option Carried) (c : ClientId) (a : AsksOf) → told_all c (failure k carries ∷ []) a ≡ a
@@ -373,7 +373,7 @@ failed_dull : (w : World) (k : Option IssuedCommand) (c : ClientId) (a : AsksOf)
 failed_dull w None c a = refl
 failed_dull w (Some k) c a = told_dull k (site_of w k.client) c a
 
-report_dull : (w : World) (k : ℕ) (ok : Bool) → Dull w (events.Report k ok)
+pub report_dull : (w : World) (k : ℕ) (ok : Bool) → Dull w (events.Report k ok)
 unfolding of_event
 report_dull w k true c a = refl
 report_dull w k false c a = failed_dull w (world.issued_of w k) c a
@@ -405,7 +405,7 @@ module _ (t : World) (e : Event) (rests : Rests t) where
         opened = λ c. o c (told_all c (of_event t e) (at_site (site_of t c)));
       }
 
-  -- a client is another one
+  -- a client is replaced
   site_own : (c : ClientId) (old new : WorldClient) (cs : List WorldClient) → site_of t c ≡ Some old → cs ≡ with_numbered c.0 new t.clients →
       numbered cs c.0 ≡ Some new
   site_own c old new cs at q = ap (λ xs. numbered xs c.0) q ∙ numbered_own t.clients c.0 new old at

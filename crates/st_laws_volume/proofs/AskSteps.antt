@@ -104,7 +104,7 @@ keys_last c (x ∷ xs) a =
     turned false true = refl
     turned false false = refl
 
--- of three numbers, the second and the third are one, or not
+-- of three numbers, the second and the third are the same, or not
 first_too : (a b c : ℕ) → (b == c) ≡ true → (a == c) ≡ true → (a == b) ≡ true
 first_too a b c e f = eq-eqb a b (eqb-true a c f ∙ sym (eqb-true b c e))
 
@@ -120,7 +120,7 @@ keys_mine c x xs q = key_if c (is_of_client c x) x xs ∙ if_true (is_of_client 
 keys_others : (c : ClientId) (x : Pending) (xs : List Pending) → is_of_client c x ≡ false → keys c (x ∷ xs) ≡ keys c xs
 keys_others c x xs q = key_if c (is_of_client c x) x xs ∙ if_false (is_of_client c x) (ask_key x ∷ keys c xs) (keys c xs) q
 
--- where the test of the first one is decided
+-- if the test of the first one is decided
 keys_first : (c : ClientId) (test : Pending → Bool) (x : Pending) (xs : List Pending) (b : Bool) → test x ≡ b →
     keys c (filter test (x ∷ xs)) ≡ keys c (if b then x ∷ filter test xs else filter test xs)
 keys_first c test x xs b q = ap (λ z. keys c (if z then x ∷ filter test xs else filter test xs)) q
@@ -305,7 +305,7 @@ found_answered c d op answer v = go (find (is_ask d op) v.pending) refl
     go (Some a) q = answered_tells c d op answer v a (found_at (is_ask d op) v.pending a q).0
 
 -- An ask.
-asked_tells : (c d : ClientId) (ask : Ask) (v : Volume) → Told c (steps.Asked d ask) v (notice (arrived v d ask))
+pub asked_tells : (c d : ClientId) (ask : Ask) (v : Volume) → Told c (steps.Asked d ask) v (notice (arrived v d ask))
 asked_tells c d ask v =
     noticed c (arrived v d ask)
     ∙ (ap (asks_as (asked_by c (asked_of d ask ∷ v.asked))) (keys_last c v.pending (new_ask v d ask))

@@ -86,12 +86,12 @@ all_map as_ f k [] h = tt
 all_map as_ f k (a ∷ xs) h = (k a h.0, all_map as_ f k xs h.1)
 
 -- Effects leave the asks.
-record Same (v u : Volume) : Type 0 where
-  asked : u.asked ≡ v.asked
-  pending : u.pending ≡ v.pending
-  orphans : u.orphans ≡ v.orphans
+pub record Same (v u : Volume) : Type 0 where
+  pub asked : u.asked ≡ v.asked
+  pub pending : u.pending ≡ v.pending
+  pub orphans : u.orphans ≡ v.orphans
 
-abbrev Leaves : Volume → Volume × AppAnswer → Type 0
+abbrev pub Leaves : Volume → Volume × AppAnswer → Type 0
 Leaves v r = Same v r.0
 
 joins : (v : Volume) (f : FileId) (e : Entry) → OnSome (Same v) (with_entry v f e)
@@ -116,7 +116,7 @@ made_leaves v c s (t, (answer, removed)) =
     (on_more (Same v) (λ w. Same v (with_tree s t w)) (λ w k. record { asked = k.asked; pending = k.pending; orphans = k.orphans }) (cuts_removed v c s removed)
     (removal_leaves v c s removed)))
 
-effect_leaves : (v : Volume) (c : ClientId) (ask : Ask) → OnSome (Leaves v) (effect v c ask)
+pub effect_leaves : (v : Volume) (c : ClientId) (ask : Ask) → OnSome (Leaves v) (effect v c ask)
 effect_leaves v c (asks.Write f p bytes) = result_leaves v answers.Written _ (joins v f (entry c (asks.Write f p bytes) fates.Open))
 effect_leaves v c (asks.Patch f p at bytes) = result_leaves v answers.Written _ (joins v f (entry c (asks.Patch f p at bytes) fates.Open))
 effect_leaves v c (asks.Read f p) = tt
@@ -257,7 +257,7 @@ module _ (as_ : Asked) where
   acts_right v (kinds.ReadFailed d s number) q h = failed_right d number (is_read_of s) v h
   acts_right v (kinds.Joined i d what) q h = tt
 
-  step_right : (v : Volume) (it : VolumeStep) → is_other it ≡ true → R v → OnSome R (volume.step v it)
+  pub step_right : (v : Volume) (it : VolumeStep) → is_other it ≡ true → R v → OnSome R (volume.step v it)
   step_right v (kinds.Joined i d what) q h = on_if R _ (Some (record v { lines = i })) (record { count = h.count; pending = h.pending; orphans = h.orphans })
   step_right v (kinds.Asked d ask) q h = cc
   step_right v (kinds.TakesEffect d op) q h = on_if R (v.lines == length v.log) (acts v (kinds.TakesEffect d op)) (acts_right v (kinds.TakesEffect d op) q h)

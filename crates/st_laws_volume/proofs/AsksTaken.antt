@@ -190,7 +190,7 @@ plain_few t e sc q l h =
     (all_other (flat_map (of_line t) sc.seen) (lines_are t sc.seen))
     (all_few c (of_event t e) (at_site (site_of t c)) 16 (event_other t e q) (few_at t h c))))
 
--- One client is another one.
+-- One client is replaced.
 put_few : (t v : World) (c : ClientId) (old new : WorldClient) → site_of t c ≡ Some old → v.clients ≡ with_numbered c.0 new t.clients →
     length new.node.state.operations ≤ 16 → AllFew t → AllFew v
 put_few t v c old new at cs few h d site there = go (same_or_not d.0 c.0)
@@ -233,7 +233,7 @@ module _ (t : World) (c : ClientId) (ask : Ask) (h : AllFew t) where
   app_few holds places None at = h
   app_few holds places (Some site) at = app_takes (length t.servers) site at (holds c site at) (places.known c site at)
 
-event_few : (t : World) (e : Event) (sc : WorldTurn) → world_step t e ≡ Ok sc → AsksLeft t e sc →
+pub event_few : (t : World) (e : Event) (sc : WorldTurn) → world_step t e ≡ Ok sc → AsksLeft t e sc →
     ((c : ClientId) (site : WorldClient) → site_of t c ≡ Some site → NodeHolds t.config t.clocks t.ended c site.node) → PlacesAt (length t.servers) t →
     AllFew t → AllFew sc.world
 unfolding ev.happens
@@ -338,7 +338,7 @@ ask_on past t e sc it f g h = (
         event_asks t.world e v l a h.few (of_delivery it.behind v t.world e ++ of_lines t.world sc.seen)
         (both_inside (of_delivery it.behind v t.world e) (of_lines t.world sc.seen) (delivery_inside it.behind v t.world e) (lines_inside t.world sc.seen))
 
-fresh_few : (k : Config) (clients servers disks blocks form : ℕ) → AllFew (fresh_world k clients servers disks blocks form)
+pub fresh_few : (k : Config) (clients servers disks blocks form : ℕ) → AllFew (fresh_world k clients servers disks blocks form)
 fresh_few k clients servers disks blocks form =
     at_few (fresh_world k clients servers disks blocks form)
     (λ c. subst (λ a. length a.pending ≤ 16) (sym (fresh_asks k clients servers disks blocks form c)) (omega arith))

@@ -28,7 +28,7 @@ led_more past x y =
 abbrev pub IsLed : List Step → Traced → Witness → Type 0
 IsLed past t it = (x : Step) → x.before ≡ t → led_to past x ≡ it
 
--- what each step gives and keeps, where a promise holds
+-- what each step gives and keeps, if a promise holds
 abbrev pub IsGiven : Promise → (List Step → Traced → Witness → Type 0) → (List Step → Step → Witness → Type 0) → Type 0
 IsGiven given Holds Wanted =
     (past : List Step) (t : Traced) (e : Event) (sc : WorldTurn) (it : Witness)

@@ -117,7 +117,7 @@ not_not false q = cc
 abbrev tested : Option ClientId → Ask → Entry → Bool
 tested c what e = same_change e.what what && not (is_any (λ d. not (is_by d e)) c)
 
--- where its entry has just joined the log, its line is taken
+-- if its entry has just joined the log, its line is taken
 abbrev IsNext : Volume → Entry → Volume → Type 0
 IsNext v e z = (z.lines ≡ v.lines) × (z.log ≡ v.log ++ e ∷ [])
 

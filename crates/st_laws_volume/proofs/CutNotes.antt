@@ -143,7 +143,7 @@ no_timer (Some s) e = cc
 same_message : (m k : Message) → Control m ≡ Control k → m ≡ k
 same_message m k e = cc
 
-served_so : (x : ServerState) (now : Stamp) (i : ServerInput) (t : ServerTurn) (m : Message) → Served x now i t m → serves t m.header ≡ true
+pub served_so : (x : ServerState) (now : Stamp) (i : ServerInput) (t : ServerTurn) (m : Message) → Served x now i t m → serves t m.header ≡ true
 served_so x now i t m s =
     let came = s.asked.heard.came in
     and_both (sv.is_for t.state m.header && not (is_some (authority.started t.state.authority (sv.sender m.header)))) (is_in_turn t m.header)

@@ -131,7 +131,7 @@ acts_start v (steps.WriteFailed c number i) =
 acts_start v (steps.ReadFailed c s number) = refl
 acts_start v (steps.Joined i c what) = tt
 
-step_starts : (v : Volume) (it : VolumeStep) → OnSome (Told it v) (step v it)
+pub step_starts : (v : Volume) (it : VolumeStep) → OnSome (Told it v) (step v it)
 step_starts v (steps.Joined i c what) = on_if (SameStarts v) _ (Some (record v { lines = i })) refl
 step_starts v (steps.Asked c ask) =
     on_if (Told (steps.Asked c ask) v) (v.lines == length v.log) (acts v (steps.Asked c ask)) (acts_start v (steps.Asked c ask))

@@ -148,7 +148,7 @@ epochs_same t u e v h s node at = go s.0 refl at
     go n q r = found (node_of t s) refl (ap (λ m. option_map epoch_at (numbered t.servers m)) q ∙ old n r)
 
 -- What the steps of an event start.
-started : Event → List ServerId → List ServerId
+unfoldable pub started : Event → List ServerId → List ServerId
 started (events.Start (nodes.Server s)) xs = s ∷ xs
 started e xs = xs
 
@@ -168,7 +168,7 @@ failed_starts : (w : World) (k : Option IssuedCommand) (xs : List ServerId) → 
 failed_starts w None xs = refl
 failed_starts w (Some k) xs = told_starts k (site_of w k.client) xs
 
-event_starts : (w : World) (e : Event) (xs : List ServerId) → started_all (of_event w e) xs ≡ started e xs
+pub event_starts : (w : World) (e : Event) (xs : List ServerId) → started_all (of_event w e) xs ≡ started e xs
 unfolding of_event started
 event_starts w (events.Tick n) xs = refl
 event_starts w (events.App c ask) xs = refl

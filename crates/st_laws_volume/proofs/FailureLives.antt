@@ -52,7 +52,7 @@ pub record PresentOf (w : World) (o : LogOwner) : Type 0 where
   pub server : a.server ≡ o.file.server
   pub life : a.life ≡ o.life
 
-pending_at : (P : LogOwner → Type 0) (es : List LogEntry) (e : LogEntry) → Has e es → PendingAll P es → e.fate ≡ fates.Pending → P e.of
+pub pending_at : (P : LogOwner → Type 0) (es : List LogEntry) (e : LogEntry) → Has e es → PendingAll P es → e.fate ≡ fates.Pending → P e.of
 pending_at P [] e i h q = absurd i
 pending_at P (x ∷ es) e (inl z) h q =
     subst (λ (y : LogEntry). P y.of) (sym z) (h.one (ap (λ (y : LogEntry). log.is_pending y.fate) (sym z) ∙ ap log.is_pending q))

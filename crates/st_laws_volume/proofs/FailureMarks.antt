@@ -14,7 +14,7 @@ use Words.FlatLog as log
 use Words.Lines.{IsLogTold}
 use Words.Lookups.{any_last, some_is}
 use Words.Numbers.{get_below, get_has, get_there}
-use Words.Safety.{ChangesAreLocked, Promise, Step, TheReportTellsTheLog, is_failure_of, reports_failure, step, steps}
+use Words.Safety.{ChangesAreLocked, IsHead, Promise, Step, TheReportTellsTheLog, Throughout, is_failure_of, reports_failure, step, steps}
 use Words.Tables.{and_both, and_true}
 use Words.Truth.{below_or_not, client_is, clash, file_is, none_not_some}
 use Words.World as world
@@ -111,16 +111,16 @@ which_fails w (events.Start (nodes.Client c)) = inr (refl, λ j. refl)
 which_fails w (events.Start (nodes.Server s)) = inr (refl, λ j. refl)
 
 -- What holds of a world after steps.
-abbrev ReportedKnown : List Step → World → Type 0
+abbrev pub ReportedKnown : List Step → World → Type 0
 ReportedKnown past w = (k : ℕ) → list_any (reports_failure k) past ≡ true → k ≤ length w.commands
 
-record FailuresStand (past : List Step) (t : Traced) : Type 0 where
-  stand : Stand past t
-  places : PlacesHold t.world
-  opens : OpenHold t.world
-  entries : EntriesCarried t.world
-  ordered : Ordered t.world.log
-  reported : ReportedKnown past t.world
+pub record FailuresStand (past : List Step) (t : Traced) : Type 0 where
+  pub stand : Stand past t
+  pub places : PlacesHold t.world
+  pub opens : OpenHold t.world
+  pub entries : EntriesCarried t.world
+  pub ordered : Ordered t.world.log
+  pub reported : ReportedKnown past t.world
 
 unreported : (w : World) (k : ℕ) (e : Event) → e ≡ events.Report k false → disks.command w.disks k ≡ None → adm.refusal w e ≡ None → ⊥
 unfolding adm.refusal adm.refused_report
@@ -268,7 +268,7 @@ module _ (past : List Step) (t : Traced) (e : Event) (sc : WorldTurn) (happened 
   abbrev After : Volume → Type 0
   After u = AreRemembered (past ++ x' ∷ []) sc.world u
 
-  -- where nothing fails, entries keep what failed them
+  -- if nothing fails, entries keep what failed them
   unfailed : (its : List VolumeStep) → list_all is_unfailed its ≡ true → ((k : ℕ) → is_failure_of k e ≡ false) → OnSome After (run its v)
   unfailed its q none =
       on_more (LogKept (Unit {0}) v) After
@@ -526,12 +526,12 @@ module _ (past : List Step) (t : Traced) (e : Event) (sc : WorldTurn) (happened 
           unfailed (steps_of it v x') (unfailed_then (of_event w e) (of_delivery it.behind v w e ++ of_lines w sc.seen) q inside) none
 
 -- In every run.
-record FailuresHold (past : List Step) (t : Traced) (it : Witness) : Type 0 where
-  log : LogHolds past t it
-  stand : FailuresStand past t
-  marks : OnSome (AreRemembered past t.world) it.volume
+pub record FailuresHold (past : List Step) (t : Traced) (it : Witness) : Type 0 where
+  pub log : LogHolds past t it
+  pub stand : FailuresStand past t
+  pub marks : OnSome (AreRemembered past t.world) it.volume
 
-abbrev Known : Promise
+abbrev pub Known : Promise
 Known past x =
     TheReportTellsTheLog past x
     × (ChangesAreLocked past x × (PagesHold x.after.world × (PlacesHold x.after.world × OpenHold x.after.world)))
@@ -546,7 +546,7 @@ after_remembered it past t e sc f b told (Some v) a r =
     (λ u k. on_if (AreRemembered (past ++ step t e sc ∷ []) sc.world) (u.lines == length u.log) (Some u) k) (run (steps_of it v (step t e sc)) v)
     (remembered past t e sc f b told v a r it))
 
-failures_kept : IsKept Known FailuresHold
+pub failures_kept : IsKept Known FailuresHold
 unfolding led_by
 failures_kept past t e sc it f g h =
     let x : Step = step t e sc in
@@ -575,7 +575,7 @@ fresh_ordered k clients servers disks blocks form m n o p qo qp l co cp client s
 none_at : (es : List LogEntry) (n : ℕ) (o : LogEntry) → length es ≡ 0 → slice_get es n ≡ Some o → ⊥
 none_at es n o q i = let l = get_below es n o i in omega (arith, l, q)
 
-failures_begin : (k : Config) (clients servers disks blocks form : ℕ) →
+pub failures_begin : (k : Config) (clients servers disks blocks form : ℕ) →
     FailuresHold [] (traced (fresh_world k clients servers disks blocks form))
     (begun (fresh_world k clients servers disks blocks form) (fresh_world k clients servers disks blocks form))
 unfolding begun fresh_world
@@ -594,16 +594,25 @@ failures_begin k clients servers disks blocks form =
       marks = λ n o e at there. absurd (none_at [] n o refl at);
     }
 
-pub failed_writes_are_remembered : EveryRunIsSafe → InEveryRun PagesAfter → InEveryRun FailedWritesAreRemembered
-failed_writes_are_remembered safe pages k clients servers disks blocks form es head events =
+-- what is known of each step
+pub known_in : (k : Config) (clients servers disks blocks form : ℕ) (es : List Event) → IsHead k clients servers disks blocks form →
+    IsSafeRun (fresh_world k clients servers disks blocks form) es →
+    Throughout PagesAfter [] (steps es (traced (fresh_world k clients servers disks blocks form))) →
+    Throughout Known [] (steps es (traced (fresh_world k clients servers disks blocks form)))
+known_in k clients servers disks blocks form es head kept pages =
     let t : Traced = traced (fresh_world k clients servers disks blocks form) in
-    let kept : IsSafeRun (fresh_world k clients servers disks blocks form) es = safe k clients servers disks blocks form es head events in
-    throughout_more (Led FailuresHold) FailedWritesAreRemembered (λ past x h. h.marks) [] (steps es t)
-    (carried Known FailuresHold failures_kept es t (failures_begin k clients servers disks blocks form)
-    (throughout_both TheReportTellsTheLog
+    throughout_both TheReportTellsTheLog
     (λ past x. ChangesAreLocked past x × (PagesHold x.after.world × (PlacesHold x.after.world × OpenHold x.after.world))) [] (steps es t) kept.told
     (throughout_both ChangesAreLocked (λ past x. PagesHold x.after.world × (PlacesHold x.after.world × OpenHold x.after.world)) [] (steps es t) kept.locked
     (throughout_both PagesAfter (λ past x. PlacesHold x.after.world × OpenHold x.after.world) [] (steps es t)
-    (pages k clients servers disks blocks form es head events)
+    pages
     (throughout_both (λ past x. PlacesHold x.after.world) (λ past x. OpenHold x.after.world) [] (steps es t)
-    (places_law k clients servers disks blocks form es head) (open_after k clients servers disks blocks form es head))))))
+    (places_law k clients servers disks blocks form es head) (open_after k clients servers disks blocks form es head))))
+
+pub failed_writes_are_remembered : EveryRunIsSafe → InEveryRun PagesAfter → InEveryRun FailedWritesAreRemembered
+failed_writes_are_remembered safe pages k clients servers disks blocks form es head events =
+    let t : Traced = traced (fresh_world k clients servers disks blocks form) in
+    throughout_more (Led FailuresHold) FailedWritesAreRemembered (λ past x h. h.marks) [] (steps es t)
+    (carried Known FailuresHold failures_kept es t (failures_begin k clients servers disks blocks form)
+    (known_in k clients servers disks blocks form es head (safe k clients servers disks blocks form es head events)
+    (pages k clients servers disks blocks form es head events)))

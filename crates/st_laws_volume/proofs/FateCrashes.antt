@@ -467,7 +467,7 @@ crash_marked t v x c q =
     subst (λ f. OnSome (λ u. AllCrashed c v.log u.log) (run (of_event w f ++ (of_delivery t.behind v w x.event ++ of_lines w x.seen)) v)) (sym q)
     (crash_marks c (of_delivery t.behind v w x.event ++ of_lines w x.seen) v)
 
-abbrev MarksOf : World → Volume → Type 0
+abbrev pub MarksOf : World → Volume → Type 0
 MarksOf w v = AreMarked w.ended w.log v.log
 
 after_marks : (t : Witness) (x : Step) (o : Option Volume) → TheReportTellsTheLog [] x → ChangesAreLocked [] x → LivesHold x.after.world →
@@ -488,15 +488,15 @@ after_marks t x (Some v) told locked lives adds a h =
     (run_keeps ⊥ (steps_of t v x) v (λ z. absurd z)) (for_each x.event v.log (run (steps_of t v x) v) (crash_marked t v x))))
 
 -- What is carried.
-record MarksHold (past : List Step) (t : Traced) (it : Witness) : Type 0 where
-  agree : LogHolds past t it
-  marked : OnSome (MarksOf t.world) it.volume
-  fates : FatesHold t.world
+pub record MarksHold (past : List Step) (t : Traced) (it : Witness) : Type 0 where
+  pub agree : LogHolds past t it
+  pub marked : OnSome (MarksOf t.world) it.volume
+  pub fates : FatesHold t.world
 
-abbrev Given : Promise
+abbrev pub Given : Promise
 Given past x = TheReportTellsTheLog past x × (ChangesAreLocked past x × FatesHold x.after.world)
 
-marks_kept : IsKept Given MarksHold
+pub marks_kept : IsKept Given MarksHold
 unfolding led_by
 marks_kept past t e sc it f g h =
     let x : Step = step t e sc in
@@ -508,7 +508,7 @@ marks_kept past t e sc it f g h =
       fates = g.1.1;
     }
 
-marks_begin : (k : Config) (clients servers disks blocks form : ℕ) →
+pub marks_begin : (k : Config) (clients servers disks blocks form : ℕ) →
     MarksHold [] (traced (fresh_world k clients servers disks blocks form))
     (begun (fresh_world k clients servers disks blocks form) (fresh_world k clients servers disks blocks form))
 unfolding fresh_world begun

@@ -21,14 +21,16 @@ use Rattle.st_volume.specs.declared.step.VolumeStep.{VolumeStep}
 use Rattle.st_volume.specs.declared.step.VolumeStep.TheVariants as steps
 use Rattle.st_volume.specs.declared.step.Fate.{Fate}
 use Rattle.st_volume.specs.declared.step.Fate.TheVariants as fates
-use Rattle.st_volume.specs.Pages.{Entry, failed_up_to, is_cause, is_by, is_by_at, is_open}
+use Rattle.st_volume.specs.Pages.{Entry, failed_up_to, is_cause, is_by, is_by_at, is_by_on, is_open}
 use Rattle.st_volume.specs.Trees.{Made}
-use Rattle.st_volume.specs.Volume.{Volume, Pending, acts, after_answer, answered, arrived, closed, crash_of, crashed, cuts, cuts_removed, done, effect, ends, entry, failed, freed, is_ask, made, notice, run, step, takes, with_changed, with_entry, with_fate, with_tree}
+use Rattle.st_volume.specs.Volume.{Volume, Pending, acts, after_answer, answered, arrived, closed, crash_of, crashed, cuts, cuts_removed, done, effect, ends, entry, failed, file_of, freed, is_ask, is_told, made, notice, run, step, takes, with_changed, with_entry, with_fate, with_tree}
 
--- An entry that stays; and what failed it stays too, where nothing fails meanwhile.
+-- An entry that stays; and what failed it stays too, if nothing fails meanwhile.
 pub record Keeps (quiet : Type 0) (e f : Entry) : Type 0 where
+  pub what : f.what ≡ e.what
   pub client : f.client ≡ e.client
   pub crashed : e.crashed ≡ true → f.crashed ≡ true
+  pub told : e.told ≡ true → f.told ≡ true
   pub failed : quiet → f.failed ≡ e.failed
 
 abbrev pub AllKeep : Type 0 → List Entry → List Entry → Type 0
@@ -36,10 +38,10 @@ AllKeep q [] fs = Unit {0}
 AllKeep q (e ∷ es) [] = ⊥
 AllKeep q (e ∷ es) (f ∷ fs) = Keeps q e f × AllKeep q es fs
 
--- Lists of entries that stay, where nothing fails.
+-- Lists of entries that stay, if nothing fails.
 module _ (q : Type 0) where
   keeps_self : (e : Entry) → Keeps q e e
-  keeps_self e = record { client = refl; crashed = λ h. h; failed = λ z. refl }
+  keeps_self e = record { what = refl; client = refl; crashed = λ h. h; told = λ h. h; failed = λ z. refl }
 
   pub keep_self : (es : List Entry) → AllKeep q es es
   keep_self [] = tt
@@ -51,8 +53,10 @@ module _ (q : Type 0) where
   keep_then (e ∷ es) (f ∷ fs) [] p r = absurd r
   keep_then (e ∷ es) (f ∷ fs) (g ∷ gs) p r = (
     record {
+      what = r.0.what ∙ p.0.what;
       client = r.0.client ∙ p.0.client;
       crashed = λ h. r.0.crashed (p.0.crashed h);
+      told = λ h. r.0.told (p.0.told h);
       failed = λ z. r.0.failed z ∙ p.0.failed z;
     },
     keep_then es fs gs p.1 r.1,
@@ -81,7 +85,7 @@ module _ (q : Type 0) where
   keep_failed never (suc n) c number x (e ∷ es) = (go (is_by_at c x e && ((n == 0) || is_open e.fate)), keep_failed never n c number x es)
     where
       go : (b : Bool) → Keeps q e (if b then record e { failed = number } else e)
-      go true = record { client = refl; crashed = λ h. h; failed = λ z. absurd (never z) }
+      go true = record { what = refl; client = refl; crashed = λ h. h; told = λ h. h; failed = λ z. absurd (never z) }
       go false = keeps_self e
 
   -- Each step.
@@ -121,9 +125,13 @@ module _ (q : Type 0) where
   takes_keeps : (v : Volume) (a : Pending) → OnSome (LogKept v) (takes v a)
   takes_keeps v a = on_else (LogKept v) _ _ (on_map (LogKept v) (done a) (effect v a.client a.ask) (effect_keeps v a.client a.ask))
 
+  told_keeps : (e : Entry) (more : Bool) → Keeps q e (record e { told = e.told || more })
+  told_keeps e more =
+      record { what = refl; client = refl; crashed = λ h. h; told = λ h. or_left e.told more h; failed = λ z. refl }
+
   after_keeps : (v : Volume) (a : Pending) (answer : AppAnswer) → LogKept v (after_answer v a answer)
-  after_keeps v a answers.Hard = keep_map _ (λ e. record { client = refl; crashed = λ h. h; failed = λ z. refl }) v.log
-  after_keeps v a (answers.Lost rows) = keep_map _ (λ e. record { client = refl; crashed = λ h. h; failed = λ z. refl }) v.log
+  after_keeps v a answers.Hard = keep_map _ (λ e. told_keeps e (is_by_on a.client (file_of a.ask) e)) v.log
+  after_keeps v a (answers.Lost rows) = keep_map _ (λ e. told_keeps e (is_told a.client (file_of a.ask) rows e)) v.log
   after_keeps v a (answers.Read bytes) = keep_self v.log
   after_keeps v a (answers.Uncertain old zero) = keep_self v.log
   after_keeps v a (answers.Uncertain old (suc new)) = keep_self v.log
@@ -152,10 +160,10 @@ module _ (q : Type 0) where
       go (Some e) i =
           on_map (LogKept v) (with_changed v (suc n)) (ends test fate e)
           (on_if (λ f. LogKept v (with_changed v (suc n) f)) (is_open e.fate && test e) (Some (record e { fate = fate }))
-          (keep_set v.log n e (record e { fate = fate }) i (record { client = refl; crashed = λ h. h; failed = λ z. refl })))
+          (keep_set v.log n e (record e { fate = fate }) i (record { what = refl; client = refl; crashed = λ h. h; told = λ h. h; failed = λ z. refl })))
 
   crash_keeps : (c : ClientId) (e : Entry) → Keeps q e (crash_of c e)
-  crash_keeps c e = record { client = refl; crashed = λ h. or_left e.crashed (is_by c e) h; failed = λ z. refl }
+  crash_keeps c e = record { what = refl; client = refl; crashed = λ h. or_left e.crashed (is_by c e) h; told = λ h. h; failed = λ z. refl }
 
   acts_keep : (v : Volume) (it : VolumeStep) → (is_failed_write it ≡ true → q → ⊥) → OnSome (LogKept v) (acts v it)
   acts_keep v (steps.Asked d ask) never = on_if (LogKept v) _ (Some (notice (arrived v d ask))) (keep_self v.log)

@@ -114,7 +114,7 @@ crash_lines w c v h (Some site) =
     h.entries)
 
 -- All steps of a still event.
-event_taken : (w : World) (e : Event) (v : Volume) → IsLogOf w.log v → is_still e ≡ true →
+pub event_taken : (w : World) (e : Event) (v : Volume) → IsLogOf w.log v → is_still e ≡ true →
     IsTaken (run (of_event w e ++ of_lines w (happens (counted w) e).seen) v)
 unfolding happens of_event ev.crashes ev.starts run of_lines
 event_taken w (events.Lose k) v h s = h.lines

@@ -28,7 +28,7 @@ use Rattle.st_laws_pages.proofs.Asks.Client.{Begun, Each, Lasting, Lasts, Stands
 use Rattle.st_laws_pages.proofs.Asks.Places.{Knows}
 use Rattle.st_laws_steps.proofs.Lives.Associations.{numbers_same}
 
--- Facts of the operations: there are at most so many; and none at all.
+-- Facts of the operations: there are at most this many; and none at all.
 abbrev Free : ServerId → Type 0
 Free s = Unit {0}
 

@@ -55,20 +55,20 @@ use Rattle.st_volume.specs.Volume as volume
 use Rattle.st_volume.specs.Volume.{Pending, Volume, acts, after_answer, answered, answers_so, arrived, closed, done, effect, ends, failed, failing, fails, is_ask, is_cut_or_name, is_of_client, is_read_of, is_sync_of, new_ask, notice, noticing, numbered, resulting, run, takes, with_changed, with_fate}
 
 -- All open asks are right, but for one that has just taken effect.
-abbrev Closing : Type 0
+abbrev pub Closing : Type 0
 Closing = Option (ClientId × ℕ)
 
-abbrev right : Closing → Pending → Bool
+abbrev pub right : Closing → Pending → Bool
 right o a = may_have_result a || is_any (λ x. is_ask x.0 x.1 a) o
 
-abbrev AllRight : Closing → Volume → Type 0
+abbrev pub AllRight : Closing → Volume → Type 0
 AllRight o v = list_all (right o) v.pending ≡ true
 
-mapped : (p : Pending → Bool) (f : Pending → Pending) → ((a : Pending) → p (f a) ≡ p a) → (xs : List Pending) → list_all p (map f xs) ≡ list_all p xs
+pub mapped : (p : Pending → Bool) (f : Pending → Pending) → ((a : Pending) → p (f a) ≡ p a) → (xs : List Pending) → list_all p (map f xs) ≡ list_all p xs
 mapped p f h [] = refl
 mapped p f h (a ∷ xs) = ap (λ b. b && list_all p (map f xs)) (h a) ∙ ap (λ b. p a && b) (mapped p f h xs)
 
-filtered : (p q : Pending → Bool) (xs : List Pending) → list_all p xs ≡ true → list_all p (filter q xs) ≡ true
+pub filtered : (p q : Pending → Bool) (xs : List Pending) → list_all p xs ≡ true → list_all p (filter q xs) ≡ true
 filtered p q xs h = all_pass p (filter q xs) (λ a i. each_passes p xs h a (has_filter q xs a i).0)
 
 module _ (o : Closing) where
@@ -118,7 +118,7 @@ module _ (o : Closing) where
   acts_right v (kinds.ReadFailed c s number) q h = failing_right c number (is_read_of s) v h
   acts_right v (kinds.Joined i c what) q h = tt
 
-  step_right : (v : Volume) (it : VolumeStep) → is_kept it ≡ true → AllRight o v → OnSome (AllRight o) (volume.step v it)
+  pub step_right : (v : Volume) (it : VolumeStep) → is_kept it ≡ true → AllRight o v → OnSome (AllRight o) (volume.step v it)
   step_right v (kinds.Joined i c what) q h = on_if (AllRight o) _ (Some (record v { lines = i })) h
   step_right v (kinds.Asked c ask) q h = on_if (AllRight o) (v.lines == length v.log) (acts v (kinds.Asked c ask)) (acts_right v (kinds.Asked c ask) q h)
   step_right v (kinds.TakesEffect c op) q h = cc q
@@ -134,7 +134,7 @@ module _ (o : Closing) where
   step_right v (kinds.ReadFailed c s number) q h =
       on_if (AllRight o) (v.lines == length v.log) (acts v (kinds.ReadFailed c s number)) (acts_right v (kinds.ReadFailed c s number) q h)
 
-  run_kept : (its : List VolumeStep) (v : Volume) → list_all is_kept its ≡ true → AllRight o v → OnSome (AllRight o) (run its v)
+  pub run_kept : (its : List VolumeStep) (v : Volume) → list_all is_kept its ≡ true → AllRight o v → OnSome (AllRight o) (run its v)
   unfolding run
   run_kept [] v q h = h
   run_kept (it ∷ its) v q h =
@@ -143,7 +143,7 @@ module _ (o : Closing) where
       (on_more (AllRight o) (λ u. OnSome (AllRight o) (run its u)) (λ u k. run_kept its u b.1 k) (volume.step v it) (step_right v it b.0 h))
 
 -- An ask that takes effect.
-taken : (P : Volume → Type 0) (v : Volume) (c : ClientId) (op : ℕ) →
+pub taken : (P : Volume → Type 0) (v : Volume) (c : ClientId) (op : ℕ) →
     ((a : Pending) → find (is_ask c op) (v.pending ++ v.orphans) ≡ Some a → (y : Volume × AppAnswer) → Kept v y.0 → P (notice (done a y))) →
     OnSome P (volume.step v (kinds.TakesEffect c op))
 taken P v c op h =
@@ -181,7 +181,7 @@ after_effect p q v a y k same own other h =
         and_both (p (resulting a y.1 b)) (list_all p (map (resulting a y.1) xs)) (one b (i b (inl refl)) z.0) (all xs (λ x j. i x (inr j)) z.1)
 
 -- A write or a patch: it is the one that is answered next.
-change_right : (v : Volume) (c : ClientId) (op : ℕ) → AllRight None v → OnSome (AllRight (Some (c, op))) (volume.step v (kinds.TakesEffect c op))
+pub change_right : (v : Volume) (c : ClientId) (op : ℕ) → AllRight None v → OnSome (AllRight (Some (c, op))) (volume.step v (kinds.TakesEffect c op))
 change_right v c op h =
     taken (AllRight (Some (c, op))) v c op
     (λ a f y k. after_effect (right (Some (c, op))) (right None) v a y k (λ b. refl) (λ b i r e. own a f b e y.1) (λ b r. other b r) h)
@@ -201,7 +201,7 @@ change_right v c op h =
         (ap (λ d. is_ask d op b) (sym (client_is a.client c k.0)) ∙ (ap (λ n. is_ask a.client n b) (sym (eqb-true a.op op k.1)) ∙ e))
 
 -- its answer closes it
-answer_right : (v : Volume) (c : ClientId) (op : ℕ) (answer : AppAnswer) → AllRight (Some (c, op)) v →
+pub answer_right : (v : Volume) (c : ClientId) (op : ℕ) (answer : AppAnswer) → AllRight (Some (c, op)) v →
     OnSome (AllRight None) (volume.step v (kinds.Answered c op answer))
 answer_right v c op answer h =
     on_if (AllRight None) (v.lines == length v.log) (acts v (kinds.Answered c op answer))
@@ -281,7 +281,7 @@ module _ (as_ : Asked) (bs : List Behind) (v : Volume) (r : AreOf as_ v) (h : Al
       found None = none
       found (Some b) = matched b.op (is_there v s m b.op) refl
 
-  delivery_right : (w : World) (e : Event) → OnSome (AllRight None) (run (of_delivery bs v w e) v)
+  pub delivery_right : (w : World) (e : Event) → OnSome (AllRight None) (run (of_delivery bs v w e) v)
   unfolding run
   delivery_right w (events.Deliver k) = by (message_of w k)
     where
@@ -405,11 +405,11 @@ after_results past it x b (Some v) r h =
     (run (steps_of it v x) v)
     (results_of (asks_of past) it.behind v x.before.world x.event x.seen r b h))
 
-record ResultsHold (past : List Step) (t : Traced) (it : Witness) : Type 0 where
-  results : OnSome (AllRight None) it.volume
-  asks : RightHold past t it
+pub record ResultsHold (past : List Step) (t : Traced) (it : Witness) : Type 0 where
+  pub results : OnSome (AllRight None) it.volume
+  pub asks : RightHold past t it
 
-results_kept : IsKept AsksAreAnsweredOnce ResultsHold
+pub results_kept : IsKept AsksAreAnsweredOnce ResultsHold
 unfolding led_by
 results_kept past t e sc it f g h =
     let x : Step = step t e sc in
@@ -419,13 +419,13 @@ results_kept past t e sc it f g h =
       asks = right_kept past t e sc it f tt h.asks;
     }
 
-results_begin : (k : Config) (clients servers disks blocks form : ℕ) →
+pub results_begin : (k : Config) (clients servers disks blocks form : ℕ) →
     ResultsHold [] (traced (fresh_world k clients servers disks blocks form))
     (begun (fresh_world k clients servers disks blocks form) (fresh_world k clients servers disks blocks form))
 unfolding begun
 results_begin k clients servers disks blocks form = record { results = refl; asks = right_begins k clients servers disks blocks form }
 
-only_those : (v : Volume) → AllRight None v → list_all may_have_result v.pending ≡ true
+pub only_those : (v : Volume) → AllRight None v → list_all may_have_result v.pending ≡ true
 only_those v h = all_pass may_have_result v.pending (λ a i. go a (or_cases (may_have_result a) false (each_passes (right None) v.pending h a i)))
   where
     go : (a : Pending) → (may_have_result a ≡ true) ⊎ (false ≡ true) → may_have_result a ≡ true

@@ -91,7 +91,7 @@ first_like (o ∷ os) [] fs h l = absurd h
 first_like (o ∷ os) (e ∷ es) [] h l = absurd l
 first_like (o ∷ os) (e ∷ es) (f ∷ fs) h l = (same_like o e f h.0 l.0, first_like os es fs h.1 l.1)
 
--- Where there are as many, they are the same.
+-- If there are as many, they are the same.
 pub first_all : (os : List LogEntry) (es : List Entry) → length es ≡ length os → AreFirst os es → AreSame os es
 first_all [] [] n h = tt
 first_all [] (e ∷ es) n h = cc

@@ -18,7 +18,7 @@ use Rattle.st_laws_volume.proofs.LogSteps.{IsTold}
 use Rattle.st_laws_volume.proofs.Options.{on_more, on_then, on_true}
 use Rattle.st_volume.specs.Volume.{Volume, run}
 
--- Where each entry has had its line, these are all entries.
+-- If each entry has had its line, these are all entries.
 pub told_of : (os : List LogEntry) (v : Volume) → IsLogOf os v → IsTold os v
 told_of os v h = record { lines = h.lines ∙ same_length os v.log h.entries; first = same_first os v.log h.entries }
 

@@ -1,4 +1,4 @@
--- Where the logs are the same, the pages are: entries fit their pages.
+-- If the logs are the same, the pages are: entries fit their pages.
 use Rattle.std.proofs.Common.{◌≡◌, ℕ, ◌+◌, ◌≤◌, Bool, true, false, not, ◌&&◌, ◌==◌, List, [], ◌∷◌, ◌++◌, length, refl, ap, ◌∙◌, arith, if◌then◌else◌}
 use Rattle.std.specs.Prelude.{zero, suc, nat_le, take, drop}
 use Rattle.std.specs.List.{list_all}

@@ -29,7 +29,7 @@ use Rattle.st_lemmas.proofs.Tables.{and_both, and_true}
 use Rattle.st_lemmas.proofs.Tests.{all_last}
 use Rattle.st_laws_volume.proofs.ReadContents.{fits, fits_page}
 
--- the event of a step is in its ranges, in a world of so many nodes
+-- the event of a step is in its ranges, in a world of this many nodes
 abbrev pub is_in_range : ℕ → Step → Bool
 is_in_range n x = is_event n x.event
 

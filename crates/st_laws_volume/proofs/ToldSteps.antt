@@ -202,12 +202,12 @@ effect_near v c op =
     (find (is_ask c op) (v.pending ++ v.orphans)))))
 
 -- Several steps.
-one_then : (it : VolumeStep) (its : List VolumeStep) (v : Volume) → is_kept it ≡ true → Near v → ((u : Volume) → Told u → OnSome Told (run its u)) →
+pub one_then : (it : VolumeStep) (its : List VolumeStep) (v : Volume) → is_kept it ≡ true → Near v → ((u : Volume) → Told u → OnSome Told (run its u)) →
     OnSome Told (run (it ∷ its) v)
 unfolding run
 one_then it its v q h k = on_then Told (run its) (step v it) (on_more Told (λ u. OnSome Told (run its u)) k (step v it) (step_told v it q h))
 
-two_then : (c : ClientId) (op : ℕ) (it : VolumeStep) (its : List VolumeStep) (v : Volume) → is_kept it ≡ true →
+pub two_then : (c : ClientId) (op : ℕ) (it : VolumeStep) (its : List VolumeStep) (v : Volume) → is_kept it ≡ true →
     ((u : Volume) → Told u → OnSome Told (run its u)) → OnSome Told (run (kinds.TakesEffect c op ∷ it ∷ its) v)
 unfolding run
 two_then c op it its v q k =
@@ -260,7 +260,7 @@ event_kept w (events.Crash (nodes.Server s)) = refl
 event_kept w (events.Start (nodes.Client c)) = refl
 event_kept w (events.Start (nodes.Server s)) = refl
 
--- Lines: an effect is followed by its line; and where there is a line of a cut, each entry has had its line after it.
+-- Lines: an effect is followed by its line; and if there is a line of a cut, each entry has had its line after it.
 module _ (w : World) where
   pub lines_told : (os : List Observation) (v : Volume) → Told v → OnSome Told (run (of_lines w os) v)
   unfolding of_lines before_line of_line run

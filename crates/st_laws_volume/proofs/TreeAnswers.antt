@@ -266,7 +266,7 @@ remove_nothing n s dir name ino r q =
         is q = cc
     none (Some e) q = cc
 
--- what becomes of a remove where there is an entry
+-- what becomes of a remove if there is an entry
 removing : (n : Names) → IsSound n → (dir : ℕ) (name : List ℕ) (ino there : ℕ) (i : IsThere n dir name there) →
     does (tree_of n) (asked.Remove dir name ino)
     ≡ (if i.entry.directory

@@ -58,7 +58,7 @@ mark_of o = option_map names.directory_mark o
 abbrev AreOnce : List NameEntry → Type 0
 AreOnce es = (e f : NameEntry) → Has e es → Has f es → e.ino ≡ f.ino → e ≡ f
 
--- the entries of one inode are one
+-- the entries of one inode are the same
 one_of : (es : List NameEntry) → AreOnce es → (ino : ℕ) (d x : NameEntry) → names.is_of_ino ino d ≡ true → Has d es → Has x es → (x.ino == ino) ≡ true → x ≡ d
 one_of es once ino d x p h i q = once x d i h (eqb-true x.ino ino q ∙ sym (eqb-true d.ino ino p))
 

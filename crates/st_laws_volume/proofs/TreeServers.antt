@@ -60,7 +60,7 @@ IsOutcome n ask r = ByReply n ask r.turn.state.stable.names r.reply
 made_by : (o : Option Made) (t : Tree) (a : AppAnswer) (removed : Option ℕ) → o ≡ Some (t, (a, removed)) → MadeOr o t a
 made_by o t a removed e = subst (λ x. MadeOr x t a) (sym e) (refl, refl)
 
--- a remove names a grant where it means a file
+-- a remove names a grant if it means a file
 abbrev pub Pairs : NameAsk → GrantNo → Type 0
 Pairs (asked.Remove dir name ino) g = (if ino == 0 then g.0 == 0 else not (g.0 == 0)) ≡ true
 Pairs ask g = Unit {0}

@@ -287,7 +287,7 @@ pair_same v c op i what w =
     by (asks.Sync f) u e = absurd e
 
 -- The lines of an event.
-line_same : (w : World) (o : Observation) (rest : List Observation) (v : Volume) →
+pub line_same : (w : World) (o : Observation) (rest : List Observation) (v : Volume) →
     OnSome (λ u. OnSome (SameTrees v) (run (of_line w o) u)) (run (before_line o rest) v)
 unfolding before_line of_line run
 line_same w (seen.Wrote i c f p bytes) rest v = pair_same v c (next_op rest) i (asks.Write f p bytes) refl

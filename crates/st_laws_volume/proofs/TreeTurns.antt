@@ -59,12 +59,12 @@ unfolding sv.thefts
 thefts_stable x now =
     stolen_stable (authority.over x.authority now) (sv.with_authority (authority.still_running x.authority now) (sv.turn x []))
 
-granted_state : (xs : List (ClientId × Life × ℕ × GrantNo × Mode)) (t : ServerTurn) → (sv.tell_granted xs t).state ≡ t.state
+pub granted_state : (xs : List (ClientId × Life × ℕ × GrantNo × Mode)) (t : ServerTurn) → (sv.tell_granted xs t).state ≡ t.state
 unfolding sv.tell_granted sv.tell
 granted_state [] t = refl
 granted_state (x ∷ xs) t = granted_state xs (sv.tell t x.0 x.1 (bodies.Granted x.2 x.3 x.4))
 
-demanded_state : (xs : List (ClientId × Life × ℕ × GrantNo × Mode)) (t : ServerTurn) → (sv.tell_demanded xs t).state ≡ t.state
+pub demanded_state : (xs : List (ClientId × Life × ℕ × GrantNo × Mode)) (t : ServerTurn) → (sv.tell_demanded xs t).state ≡ t.state
 unfolding sv.tell_demanded sv.tell
 demanded_state [] t = refl
 demanded_state (x ∷ xs) t = demanded_state xs (sv.tell t x.0 x.1 (bodies.Demand x.2 x.3 x.4))

@@ -56,7 +56,7 @@ failed_is : (w : World) (k : Option IssuedCommand) → list_all is_no_effect (fa
 failed_is w None = refl
 failed_is w (Some k) = told_is k (site_of w k.client)
 
-event_is : (w : World) (e : Event) → list_all is_no_effect (of_event w e) ≡ true
+pub event_is : (w : World) (e : Event) → list_all is_no_effect (of_event w e) ≡ true
 unfolding of_event
 event_is w (events.Tick n) = refl
 event_is w (events.App c ask) = refl
@@ -73,8 +73,8 @@ event_is w (events.Crash (nodes.Server s)) = refl
 event_is w (events.Start (nodes.Client c)) = refl
 event_is w (events.Start (nodes.Server s)) = refl
 
--- All steps of an event, where nothing is delivered.
-no_delivery : (bs : List Behind) (v : Volume) (w : World) (e : Event) → is_delivery e ≡ false → of_delivery bs v w e ≡ []
+-- All steps of an event, if nothing is delivered.
+pub no_delivery : (bs : List Behind) (v : Volume) (w : World) (e : Event) → is_delivery e ≡ false → of_delivery bs v w e ≡ []
 no_delivery bs v w (events.Tick n) q = refl
 no_delivery bs v w (events.App c ask) q = refl
 no_delivery bs v w (events.Deliver k) q = cc

@@ -29,7 +29,7 @@ EntriesAreTold past x =
     OnSome (λ v. OnSome (λ u. u.lines ≡ length u.log) (run (steps_of (led_to past x) v x) v))
     (led_to past x).volume
 
--- a fact of each of these steps and the volume before it, where the volume has taken those before it
+-- a fact of each of these steps and the volume before it, if the volume has taken those before it
 unfoldable pub AtEachStep : (VolumeStep → Volume → Type 0) → List VolumeStep → Volume → Type 0
 AtEachStep fact [] v = ⊤
 AtEachStep fact (it ∷ rest) v = fact it v × OnSome (AtEachStep fact rest) (step v it)
@@ -73,6 +73,11 @@ is_answer it = false
 abbrev pub is_written : VolumeStep → Bool
 is_written (kinds.Answered c op answers.Written) = true
 is_written it = false
+
+-- the answer that a sync's file is hard
+abbrev pub is_hard_answer : VolumeStep → Bool
+is_hard_answer (kinds.Answered c op answers.Hard) = true
+is_hard_answer it = false
 
 -- what becomes of an entry
 abbrev pub is_fate : VolumeStep → Bool

@@ -3,15 +3,21 @@
 //! volume has taken the steps" don't say that it takes them.
 #![tactic(auto)]
 
+ghost use Rattle.st_laws_volume.specs.AnswerKinds.{FilesAreAnsweredWithoutResults, SyncFaultsAreTaken, is_opsfull, is_uncertain};
 ghost use Rattle.st_laws_volume.specs.AskedAsks.{AsksAreAsAsked};
 ghost use Rattle.st_laws_volume.specs.Asks.{AsksAgree};
+ghost use Rattle.st_laws_volume.specs.Effects.{ChangesFindTheirFiles, ChangesTakeEffect, MappedFilesExist};
 ghost use Rattle.st_laws_volume.specs.Epochs.{EpochsAgree};
 ghost use Rattle.st_laws_volume.specs.FateMarks.{CrashesAreMarked, FailedWritesAreRemembered};
 ghost use Rattle.st_laws_volume.specs.Fates.{StillEventsAreTaken};
-ghost use Rattle.st_laws_volume.specs.StepKinds.{AnswersAreToOpenAsks, EntriesAreTold, KindsAreEnough, StepsAreTaken, is_ask, is_change_line, is_failed_write, is_free, is_line, is_written};
+ghost use Rattle.st_laws_volume.specs.StepKinds.{AnswersAreToOpenAsks, EntriesAreTold, KindsAreEnough, StepsAreTaken, is_ask, is_change_line, is_failed_write, is_fate, is_free, is_hard_answer, is_line, is_written};
 ghost use Rattle.st_laws_volume.specs.Laws.{RunsInParts, StepsShowTheEvent, TheStartAgrees};
 ghost use Rattle.st_laws_volume.specs.Logs.{InEveryRun, LogsAgree};
+ghost use Rattle.st_laws_volume.specs.LossMarks.{LossesAreMet};
+ghost use Rattle.st_laws_volume.specs.Notices.{AsksHaveNoticed};
 ghost use Rattle.st_laws_volume.specs.Reads.{PagesAgree, ReadsGiveThePages};
+ghost use Rattle.st_laws_volume.specs.Requests.{RequestsFindNone, RequestsHaveAsks};
+ghost use Rattle.st_laws_volume.specs.ResultAnswers.{gives_result};
 ghost use Rattle.st_laws_volume.specs.Results.{ResultsAreOfCutsAndNames};
 ghost use Rattle.st_laws_volume.specs.TreeNames.{NamesStaySound, SoundNamesDoTheSame};
 ghost use Rattle.st_laws_volume.specs.Trees.{TreesAgree};
@@ -73,6 +79,27 @@ pub fn crashes_are_marked()
 /// carried it, or carried it along, and was reported failed.
 pub fn failed_writes_are_remembered()
     ensures { InEveryRun FailedWritesAreRemembered }
+{}
+
+/// In every run the volume takes what becomes of each entry, if it has taken all steps before it:
+/// the entry is open, and one that is dropped has its cause, a crash of its client or the last
+/// write that carried it.
+pub fn fates_are_taken()
+    ensures { InEveryRun (StepsAreTaken is_fate) }
+{}
+
+/// In every run, after every event up to which the volume has taken the steps: if a write or patch
+/// was dropped, its client crashed since or was told, or its page is among those that the client
+/// owes an answer about, or is dirty at the client, whose lease is over.
+pub fn losses_are_met()
+    ensures { InEveryRun LossesAreMet }
+{}
+
+/// In every run the volume takes each answer `hard`, if it has taken all steps before it: each
+/// write and patch of that file by this client is hard, or was dropped and its client was told, or
+/// the client crashed since.
+pub fn hard_answers_are_taken()
+    ensures { InEveryRun (StepsAreTaken is_hard_answer) }
 {}
 
 /// What an ask makes of a tree is what the names of a server do, if they are sound.
@@ -139,19 +166,19 @@ pub fn results_are_of_cuts_and_names()
     ensures { InEveryRun ResultsAreOfCutsAndNames }
 {}
 
-/// In every run each answer is one to an ask that is open in the volume, where the volume has taken
+/// In every run each answer is one to an ask that is open in the volume, if the volume has taken
 /// all steps before it.
 pub fn answers_are_to_open_asks()
     ensures { InEveryRun AnswersAreToOpenAsks }
 {}
 
 /// In every run each read is answered with the bytes that its page contains in the volume at that
-/// answer, where the volume has taken all steps before it.
+/// answer, if the volume has taken all steps before it.
 pub fn reads_give_the_pages()
     ensures { InEveryRun ReadsGiveThePages }
 {}
 
-/// In every run the volume takes each answer `written`, where it has taken all steps before it: the
+/// In every run the volume takes each answer `written`, if it has taken all steps before it: the
 /// ask that it answers is open, and has just taken effect.
 pub fn written_answers_are_taken()
     ensures { InEveryRun (StepsAreTaken is_written) }
@@ -161,4 +188,73 @@ pub fn written_answers_are_taken()
 /// server is the one in the world.
 pub fn epochs_agree()
     ensures { InEveryRun EpochsAgree }
+{}
+
+/// In every run, after every event: each page that a server has mapped belongs to a file that it
+/// has.
+pub fn mapped_files_exist()
+    ensures { InEveryRun MappedFilesExist }
+{}
+
+/// In every run each write and each patch of a page finds that its file exists, and that what is
+/// pending of the file is of the client that writes.
+pub fn changes_find_their_files()
+    ensures { InEveryRun ChangesFindTheirFiles }
+{}
+
+/// In every run the volume takes the effect before each line of a write or a patch, if it has taken
+/// all steps before the lines of the event: the ask is the first open one of its client that is a
+/// write of this file or a patch of this page, and its file is free for it.
+pub fn changes_take_effect()
+    ensures { InEveryRun ChangesTakeEffect }
+{}
+
+/// In every run the volume takes each answer `opsfull`, if it has taken all steps before it: the
+/// ask that it answers is its client's newest, and sixteen older ones are open.
+pub fn opsfull_answers_are_taken()
+    ensures { InEveryRun (StepsAreTaken is_opsfull) }
+{}
+
+/// In every run the volume takes each answer `uncertain`, if it has taken all steps before it: the
+/// ask that it answers is a cut or an ask for a name, and its epochs are epochs of the asked
+/// server.
+pub fn uncertain_answers_are_taken()
+    ensures { InEveryRun (StepsAreTaken is_uncertain) }
+{}
+
+/// In every run each answer other than `written` goes to a cut, to an ask for a name, or to an ask
+/// that has no result, if the volume has taken all steps before it.
+pub fn files_are_answered_without_results()
+    ensures { InEveryRun FilesAreAnsweredWithoutResults }
+{}
+
+/// In every run the volume takes each answer `diskfault` to a sync, if it has taken all steps
+/// before it: the command that it names is a write of the sync's file that was just reported
+/// failed.
+pub fn sync_faults_are_taken()
+    ensures { InEveryRun SyncFaultsAreTaken }
+{}
+
+/// In every run, after every event up to which the volume has taken the steps: its open asks have
+/// noticed what there is now to notice.
+pub fn asks_have_noticed()
+    ensures { InEveryRun AsksHaveNoticed }
+{}
+
+/// In every run each request for a cut or a name that a server serves and does belongs to an ask of
+/// its sender, which the ghost has under the key of the request.
+pub fn requests_have_asks()
+    ensures { InEveryRun RequestsHaveAsks }
+{}
+
+/// In every run such a request finds that the open ask to which it belongs has no result yet: an
+/// ask takes effect once.
+pub fn requests_find_none()
+    ensures { InEveryRun RequestsFindNone }
+{}
+
+/// In every run the volume takes each answer that tells the result of a cut or of an ask for a
+/// name, if it has taken all steps before it: the ask that it answers is open, and has this result.
+pub fn results_are_told()
+    ensures { InEveryRun (StepsAreTaken gives_result) }
 {}

@@ -1,0 +1,189 @@
+-- What a client's answers tell: for which ask each is, and why it is given.
+use Rattle.std.proofs.Common.{◌≡◌, ◌<◌, ◌⊎◌, ℕ, true, ◌&&◌, List, [], ◌∷◌, ◌++◌, map, Option, Some, None, refl, sym, ap, ◌∙◌, subst, inl, inr}
+use Rattle.std.proofs.lemmas.Bool.{eqb-true}
+use Rattle.std.proofs.lemmas.List.{append-nil}
+use Rattle.st_base.specs.declared.ids.ClientId.{ClientId}
+use Rattle.st_base.specs.declared.ids.ServerId.{ServerId}
+use Rattle.st_base.specs.declared.ids.Stamp.{Stamp}
+use Rattle.st_messages.specs.declared.answer.AppAnswer.{AppAnswer}
+use Rattle.st_messages.specs.declared.answer.AppAnswer.TheVariants as answers
+use Rattle.st_messages.specs.declared.ask.Ask.{Ask}
+use Rattle.st_messages.specs.declared.event.Event.{Event}
+use Rattle.st_messages.specs.declared.message.Body.{Body}
+use Rattle.st_messages.specs.declared.message.Why.{Why}
+use Rattle.st_messages.specs.declared.output.Output.{Output}
+use Rattle.st_messages.specs.declared.output.Output.TheVariants as outputs
+use Rattle.st_rules.specs.declared.client.ClientInput.{ClientInput}
+use Rattle.st_rules.specs.declared.client.ClientInput.TheVariants as inputs
+use Rattle.st_rules.specs.declared.client.IoKind.TheVariants as io
+use Rattle.st_rules.specs.declared.client.Operation.{Operation}
+use Rattle.st_rules.specs.declared.client.PageCommand.{PageCommand}
+use Rattle.st_rules.specs.Client as cl
+use Rattle.st_rules.specs.ClientPages as pages
+use Rattle.st_rules.specs.ClientState as cs
+use Rattle.st_rules.specs.ClientState.{Association, ClientState, Turn, client_turn}
+use Rattle.st_rules.specs.Keys.{same_server}
+use Rattle.st_rules.specs.World.{World, WorldClient, site_of}
+use Rattle.st_lemmas.specs.Lists.{Has}
+use Rattle.st_lemmas.proofs.Members.{has_left, has_right}
+use Rattle.st_lemmas.proofs.Tables.{and_true, found_at, has_map_in}
+use Rattle.st_lemmas.proofs.Numbers.{numbered_has}
+use Rattle.st_trace.specs.Client.Commands.{IsOutstanding}
+use Rattle.st_laws_leases.specs.Dates.Dates.{message_in}
+use Rattle.st_laws_pages.proofs.Asks.Client.{key}
+use Rattle.st_laws_volume.proofs.AnswerLines.{AllFit, fit_last}
+use Rattle.st_laws_volume.proofs.AskClient.{coming}
+use Rattle.st_laws_volume.proofs.ClientAnswers.{IsPlain, IsSilent, Keeps, Reads, Refuses, SessionIn, Syncs, Tells, WaitsFor, stepped}
+use Rattle.st_laws_volume.proofs.ClientAnswers as walk
+use Rattle.st_laws_volume.proofs.EventAnswers.{ByAsk, ByMessage, ByReport, ByTick, Given, TakesAt, given_by, given_last, of_output}
+use Rattle.st_laws_volume.proofs.SessionEpochs.{EpochsRight, Within}
+
+-- an ask that waits for a command of a server: for a read of the page, or a sync of the file for a write
+abbrev pub Waits : ServerId → PageCommand → Ask → Type 0
+Waits s x ask =
+    ((x.kind ≡ io.Read) × (cs.reads_page s x.ino x.page ask ≡ true))
+    ⊎ ((v : ℕ) × ((x.kind ≡ io.Write v) × ((same_server (cs.server_of ask) s && cs.is_file x.ino (cs.file_of ask) ≡ true) × (cs.is_sync ask ≡ true))))
+
+-- A client's open asks with the one that comes, its input, and what it had of each server.
+module _ (t : World) (c : ClientId) (start : List (ℕ × Ask)) (input : ClientInput) (before : List Association) where
+  pub record IsUncertain (op n m : ℕ) : Type 0 where
+    pub ask : Ask
+    pub known : Has (op, ask) start
+    pub cut : cs.is_cut_or_name ask ≡ true
+    pub old : Within t (cs.server_of ask) n
+    pub new : (m ≡ 0) ⊎ ((n < m) × Within t (cs.server_of ask) m)
+
+  pub record IsFault (op n : ℕ) : Type 0 where
+    pub ask : Ask
+    pub known : Has (op, ask) start
+    pub ends : input ≡ inputs.Done n None
+    pub association : Association
+    pub among : Has association before
+    pub command : PageCommand
+    pub there : Has command association.store.commands
+    pub numbered : command.number ≡ n
+    pub waits : Waits association.server command ask
+
+  abbrev pub Says : ℕ → AppAnswer → Type 0
+  Says op (answers.Uncertain n m) = IsUncertain op n m
+  Says op (answers.DiskFault n) = IsFault op n
+  Says op a = Unit {0}
+
+  abbrev pub Fits : Given → Type 0
+  Fits g = (g.client ≡ c) × Says g.op g.answer
+
+  plain_says : (op : ℕ) (a : AppAnswer) → IsPlain a → Says op a
+  plain_says op (answers.Uncertain n m) p = absurd p
+  plain_says op (answers.DiskFault n) p = absurd p
+  plain_says op a p = tt
+
+  refused_says : (v : Turn) (file : Option ℕ) (asked : Body) (o : Operation) (w : Why) (a b : ℕ) (answer : AppAnswer) → Refuses v file asked o w a b answer →
+      Says o.op answer
+  refused_says v file asked o _ a b _ (walk.HasNoFile _ _ ino e p) = tt
+  refused_says v file asked o _ a b _ (walk.HasTooManyLocks _ _ ino e p) = tt
+  refused_says v file asked o _ a b _ (walk.HasNoSpace _ _ ino p e q z) = tt
+  refused_says v file asked o _ a b _ (walk.IsNoHolder _ _ e p) = tt
+
+  server_is : (s : ServerId) (o : Operation) → cs.is_of s o ≡ true → s ≡ cs.server_of o.ask
+  server_is s o e = ap (λ n. record { 0 = n }) (sym (eqb-true (cs.server_of o.ask).0 s.0 e))
+
+  silent_none : (o : Output) → IsSilent o → of_output c o ≡ []
+  silent_none (outputs.Answer op a) s = absurd s
+  silent_none (outputs.Send m) s = refl
+  silent_none (outputs.Submit number at what) s = refl
+  silent_none (outputs.Note n) s = refl
+
+  abbrev All : List Output → Type 0
+  All out = AllFit Fits (given_by c out)
+
+  one_says : (out : List Output) (op : ℕ) (a : AppAnswer) → Says op a → All out → All (out ++ outputs.Answer op a ∷ [])
+  one_says out op a s h =
+      subst (AllFit Fits) (sym (given_last c out (outputs.Answer op a)))
+      (fit_last Fits (given_by c out) (record { client = c; op = op; answer = a }) (refl, s) h)
+
+  -- the outstanding commands of an association are those of one before
+  abbrev There : Association → Type 0
+  There a =
+      (x : PageCommand) → Has x a.store.commands → (b : Association) × (Has b before × ((b.server ≡ a.server) × Has x b.store.commands))
+
+  waits_so : (v : Turn) (x : PageCommand) (o : Operation) → WaitsFor v x o → Waits v.here.server x o.ask
+  waits_so v x o (Reads k e) = inl (k, e)
+  waits_so v x o (Syncs n k e) = let z = and_true (cs.is_on v.here.server x.ino o) (cs.is_sync o.ask) e in inr (n, (k, (z.0, z.1)))
+
+  fault_said : (v : Turn) (number : ℕ) (x : PageCommand) (o : Operation) → input ≡ inputs.Done number None → There v.here → IsOutstanding number v x →
+      Has (o.op, o.ask) start → WaitsFor v x o → IsFault o.op x.number
+  fault_said v number x o i y z k u =
+      let f = y x (found_at (pages.is_numbered number) v.here.store.commands x z.there).1 in
+      record {
+        ask = o.ask;
+        known = k;
+        ends = i ∙ ap (λ n. inputs.Done n None) (sym z.numbered);
+        association = f.0;
+        among = f.1.0;
+        command = x;
+        there = f.1.1.1;
+        numbered = refl;
+        waits = subst (λ s. Waits s x o.ask) (sym f.1.1.0) (waits_so v x o u);
+      }
+
+  module _ (s : ClientState) (now : Stamp) (right : EpochsRight t) (site : WorldClient) (at : site_of t c ≡ Some site) (is : site.node.state ≡ s)
+      (had : before ≡ s.associations) (from : start ≡ map key s.operations ++ coming input) (tells : Tells (λ op ask. Unit {0}) (Within t) input) where
+    abbrev Known : ℕ → Ask → Type 0
+    Known op ask = Has (op, ask) start
+
+    abbrev Cuts : Ask → Type 0
+    Cuts a = cs.is_cut_or_name a ≡ true
+
+    keeps : Keeps Known Cuts (λ a e. e) (Within t) There All now input (cl.losses (client_turn s []) now)
+    keeps =
+        record {
+          silent = λ out o e h. subst (AllFit Fits)
+              (sym (given_last c out o ∙ (ap (λ gs. given_by c out ++ gs) (silent_none o e) ∙ append-nil (given_by c out)))) h;
+          plain = λ out op a e h. one_says out op a (plain_says op a e) h;
+          uncertain = λ out v o n k a d f h.
+              one_says out o.op (answers.Uncertain n 0)
+              (record { ask = o.ask; known = k; cut = d; old = subst (λ y. Within t y n) (server_is v o a) f; new = inl refl }) h;
+          newer = λ out v o n m k a d f g l h.
+              one_says out o.op (answers.Uncertain n m)
+              (record {
+                ask = o.ask;
+                known = k;
+                cut = d;
+                old = subst (λ y. Within t y n) (server_is v o a) f;
+                new = inr (l, subst (λ y. Within t y m) (server_is v o a) g);
+              }) h;
+          full = λ op ask i f h. one_says (cl.losses (client_turn s []) now).out op answers.OpsFull tt h;
+          unknown = λ op ask i f h. one_says (cl.losses (client_turn s []) now).out op answers.NoFile tt h;
+          refused = λ out v z q m o w a b answer i y r e k u h. one_says out o.op answer (refused_says v _ _ o w a b answer u) h;
+          failed = λ out v number x o i y z k u h. one_says out o.op (answers.DiskFault x.number) (fault_said v number x o i y z k u) h;
+        }
+
+    asks_known : (i : ClientInput) → start ≡ map key s.operations ++ coming i → Tells (λ op ask. Unit {0}) (Within t) i → Tells Known (Within t) i
+    asks_known (inputs.App op ask) e f = subst (Has (op, ask)) (sym e) (has_right (map key s.operations) ((op, ask) ∷ []) (op, ask) (inl refl))
+    asks_known (inputs.Control m) e f = f
+    asks_known inputs.Tick e f = tt
+    asks_known (inputs.Done number r) e f = tt
+
+    pub all_say : All (cl.client_step s now input).out
+    all_say =
+        (stepped Known Cuts (λ a e. e) (Within t) There All now s input keeps (λ a x i. absurd i)
+        (λ a i. (
+          (subst (λ (y : ClientState). (b : Association) → Has b y.associations → SessionIn (Within t) b.server b.session) is
+              (right.clients c site at).sessions) a i,
+          λ x j. (a, (subst (Has a) (sym had) i, (refl, j))),
+        ))
+        (λ o i. (
+          subst (Has (key o)) (sym from) (has_left (map key s.operations) (coming input) (key o) (has_map_in key s.operations o i)),
+          (subst (λ (y : ClientState). (p : Operation) → Has p y.operations → cs.is_sent p ≡ true → cs.is_cut_or_name p.ask ≡ true) is
+              (right.clients c site at).sent) o i,
+        ))
+        tt (asks_known input from tells)).kept
+
+-- what the input of a client tells at an event
+pub input_tells : (t : World) (e : Event) → EpochsRight t → (c : ClientId) (site : WorldClient) (i : ClientInput) → TakesAt t e c site i →
+    Tells (λ op ask. Unit {0}) (Within t) i
+input_tells t e right c site _ (ByTick f) = tt
+input_tells t e right c site _ (ByAsk ask f) = tt
+input_tells t e right c site _ (ByMessage k m f q z) =
+    λ s from. right.messages m.message (has_map_in message_in t.net.messages m (numbered_has t.net.messages k m q)) s from
+input_tells t e right c site _ (ByReport k ok y r f q a s d) = tt
