@@ -54,7 +54,7 @@ static void time_is_over(G_GNUC_UNUSED int file, G_GNUC_UNUSED short what, void 
     it->is_late = it->is_ready = true;
 }
 
-/* Waits until *what is 0, for so many milliseconds at most; whether it is 0. */
+/* Waits until *what is 0, for at most this many milliseconds; whether it is 0. */
 static bool wait_for(const size_t *what, uint64_t milliseconds) {
     running->is_late = false;
     timer_set(running->timer, milliseconds);

@@ -69,7 +69,7 @@ uint64_t clock_moment(void) {
     return (uint64_t)now.tv_sec * 1000000000 + (uint64_t)now.tv_nsec;
 }
 
-/* In a trial, the node's clock runs so many parts in a million faster than the machine's. */
+/* In a trial, the node's clock runs this many parts in a million faster than the machine's. */
 static uint64_t ahead_of(uint64_t moment) { return moment + moment / 1000 * config.ahead / 1000; }
 
 uint64_t clock_at(uint64_t moment) { return added + ahead_of(moment) / MILLISECOND; }

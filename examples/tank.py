@@ -269,7 +269,7 @@ class _Node:
 
 class Client(_Node):
     """A client that runs. `lives` has one number for each server: all 0, or those that were kept
-    last. `keep(lives)` is called where there are new ones to be kept, in opening and in steps."""
+    last. `keep(lives)` is called when there are new ones to be kept, in opening and in steps."""
 
     def __init__(self, settings, id, lives, keep=None):
         super().__init__("client")

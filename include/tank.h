@@ -287,8 +287,8 @@ void tank_server_close(struct tank_server *server);
  * have any value. */
 
 /* Number, name and text of each ask, answer and result of a disk command, and of each reason for
- * which a request is refused. These are the numbers of the wire; those of the asks on names are 80
- * and the number of the wire. */
+ * which a request is refused. These are the numbers of the wire; for the asks on names, 80 is added
+ * to them. */
 #define TANK_ASKS(X)                                                                               \
     X(1, TANK_ASK_WRITE, "write")                                                                  \
     X(2, TANK_ASK_READ, "read")                                                                    \
@@ -328,7 +328,7 @@ void tank_server_close(struct tank_server *server);
     X(3, TANK_CAUSE_NOT_DIRECTORY, "not a directory")                                              \
     X(4, TANK_CAUSE_IS_DIRECTORY, "a directory")                                                   \
     X(5, TANK_CAUSE_NOT_EMPTY, "the directory has entries")                                        \
-    X(6, TANK_CAUSE_CYCLE, "a directory would come under itself")                                  \
+    X(6, TANK_CAUSE_CYCLE, "a directory would end up below itself")                                \
     X(7, TANK_CAUSE_BAD_NAME, "not a name")                                                        \
     X(8, TANK_CAUSE_TOO_MANY, "too many inodes")
 
@@ -444,7 +444,8 @@ uint32_t tank_encode_done(const struct tank_done *done, const uint8_t *page, siz
 struct tank_answer {
     uint64_t op;     /* the number of the ask */
     uint64_t first;  /* named: the inode number; refused: a number of TANK_CAUSES; no space: the
-                      * free blocks; disk fault: the command; uncertain: the old epoch; else 0 */
+                      * free blocks; disk fault: the command; uncertain: the old epoch; otherwise
+                      * 0 */
     uint64_t second; /* no space: the blocks asked for; uncertain: the new epoch, or 0 */
     size_t page;     /* read: TANK_PAGE, the bytes of the page; otherwise 0 */
     size_t rows;     /* listed and lost: how many rows; otherwise 0 */

@@ -98,7 +98,7 @@ class Client(Inputs, Passes):
         return any(operation.sent and operation.ino == ino and operation.is_cut() for operation in self.operations_of(association))
 
     def is_open(self, association, operation):
-        """A file is open to an operation where it is not busy, and is not demanded or owes this
+        """A file is open to an operation if it is not busy, and is not demanded or owes this
         operation a use. Chapter "The client".
         """
         ino = operation.ino

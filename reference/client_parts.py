@@ -71,7 +71,7 @@ class Session:
         return NONE if lock is None else lock.mode
 
     def renew(self, stamp):
-        """Rule "Renewing": to a later stamp, where the lease is not condemned. Whether the date
+        """Rule "Renewing": to a later stamp, if the lease is not condemned. Whether the date
         moved. Chapter "The client".
         """
         if self.condemned or stamp <= self.date:
@@ -187,7 +187,7 @@ class Store:
         return any(place[0] == ino and dirty.failed is not None and place not in written for place, dirty in self.dirty.items())
 
     def is_idle(self, ino):
-        """A file is idle where it has no dirty page and no outstanding command. Chapter "The
+        """A file is idle if it has no dirty page and no outstanding command. Chapter "The
         client".
         """
         return not self.has_dirty(ino) and not any(command.ino == ino for command in self.commands.values())
@@ -216,7 +216,7 @@ class Store:
             del known[at]
 
     def found(self, server, ino, page, tagged):
-        """Rule "What a read found": the bytes where the tag has the page and the known birth, else
+        """Rule "What a read found": the bytes if the tag has the page and the known birth, else
         zeros. Chapter "The client".
         """
         *tag, data = tagged

@@ -51,7 +51,7 @@ class Passes:
             self.stand_for_locks(association)
 
     def serve_sync(self, association, operation):
-        """A sync is hard where its file has no dirty page and no outstanding write. Rule
+        """A sync is hard if its file has no dirty page and no outstanding write. Rule
         "Operations". Chapter "The client".
         """
         store = association.store

@@ -31,7 +31,7 @@ class Extents:
         return tuple((at, *of_file[at]) for at in range(page, page + count) if at in of_file)
 
     def allocate(self, ino, page, count):
-        """Rule "Allocate": None, or (free, asked) where the free blocks are too few. Chapter
+        """Rule "Allocate": None, or (free, asked) if the free blocks are too few. Chapter
         "Extents".
         """
         of_file = self.pages.setdefault(ino, {})

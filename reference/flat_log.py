@@ -68,7 +68,7 @@ class FlatLog:
         self.settle((entry.client, entry.file[0], entry.life), number)
 
     def settle(self, key, number):
-        """An entry is pending no more. Chapter "The flat log"."""
+        """An entry is no longer pending. Chapter "The flat log"."""
         pending = self.pending[key]
         pending.discard(number)
         if not pending:

@@ -2,7 +2,7 @@
 
 
 class Grace:
-    """The grace of an epoch: its start, or None where the epoch has none. Chapter "Grace and
+    """The grace of an epoch: its start, or None if the epoch has none. Chapter "Grace and
     reassertion".
     """
 
@@ -16,7 +16,7 @@ class Grace:
         return self.start is not None and now < self.start + wait
 
     def told_start(self):
-        """The start of this epoch's grace, or 0 where it had none. Chapter "Grace and reassertion".
+        """The start of this epoch's grace, or 0 if it had none. Chapter "Grace and reassertion".
         """
         return 0 if self.start is None else self.start
 

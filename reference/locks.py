@@ -103,7 +103,7 @@ class LockTable:
         return ("queued",)
 
     def release(self, ino, client, life, grant, to):
-        """Rule "Release": only where the client's row has the file, the life and the grant number.
+        """Rule "Release": only if the client's row has the file, the life and the grant number.
         Chapter "Locks".
         """
         row = self.row(ino, client)

@@ -18,7 +18,7 @@ class Settings(NamedTuple):
 
 
 class Limits(NamedTuple):
-    """The limits of a world, and whether its clients cooperate: those of the first two forms, where
+    """The limits of a world, and whether its clients cooperate: those of the first two forms, if
     nothing is told. Chapter "Settings".
     """
 

@@ -16,7 +16,7 @@ class Tree:
         return (ino, False) in self.entries.values()
 
     def lies_in(self, directory, top):
-        """Whether a directory is another one, or lies in it."""
+        """Whether a directory is the first one, or lies in it."""
         above = {ino: place[0] for place, (ino, is_dir) in self.entries.items() if is_dir}
         while directory != top and directory in above:
             directory = above[directory]
@@ -48,7 +48,7 @@ def create(tree, place, is_dir):
 
 
 def remove(tree, place, ino):
-    """None where another file has the name: the ask has no effect."""
+    """None if another file has the name: the ask has no effect."""
     found, is_dir = tree.entries[place]
     if is_dir and ino != 0:
         return refused(tree, DIRECTORY)

@@ -177,7 +177,7 @@ class Volume:
 
     def search(self, server, ends, wanted, later=True):
         """Some names take effect at a server, and then what `ends` gives for a possibility and the
-        last effect. Where that effect could as well come afterwards, it is left to later."""
+        last effect. If that effect could as well come afterwards, it is left to later."""
         found = {}
         for start in self.possible if 1 <= server <= len(self.sizes) else []:
             seen, ahead = {start.key}, collections.deque([(start, None, None)])
@@ -370,7 +370,7 @@ class Volume:
         self.open_entry(index).fate = HARD
 
     def dropped(self, index, number):
-        """By a crash, where the number is None, or by a failed command."""
+        """By a crash, if the number is None, or by a failed command."""
         entry = self.open_entry(index)
         need(entry.crashed if number is None else number and entry.failed == number, f"entry {index} has no such cause")
         entry.fate = DROPPED

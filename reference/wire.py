@@ -66,7 +66,7 @@ class Reader:
         self.data, self.place = data, 0
 
     def take(self, count):
-        """The next bytes; Short where they end. Chapter "Wire"."""
+        """The next bytes; Short if they end. Chapter "Wire"."""
         if self.place + count > len(self.data):
             raise Refusal("Short")
         piece = self.data[self.place : self.place + count]
@@ -88,7 +88,7 @@ class Reader:
         return self.number(width, lambda value: low <= value <= high)
 
     def above(self, width, low):
-        """A number of at least so much. Chapter "Wire"."""
+        """A number that is at least this. Chapter "Wire"."""
         return self.number(width, lambda value: value >= low)
 
     def ino(self):

@@ -50,7 +50,7 @@ class World:
     # Looking things up
 
     def place(self, node):
-        """The place of a node's clock: clients in order, then servers; None where there is no such
+        """The place of a node's clock: clients in order, then servers; None if there is no such
         node. Chapter "The world".
         """
         if node > wire.SERVER_BASE:
@@ -286,7 +286,7 @@ class World:
                 self.seen.append(("hard", entry))
 
     def do_report(self, number, success):
-        """The command ends; its client is told, where it runs and was not started again. Chapter
+        """The command ends; its client is told, if it runs and was not started again. Chapter
         "The world".
         """
         self.disks.report(number)

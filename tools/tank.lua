@@ -42,7 +42,7 @@ local CAUSES = {
 }
 local CODES = {
   "no such entry", "the entry exists", "not a directory", "a directory", "the directory has entries",
-  "a directory would come under itself", "not a name", "too many inodes",
+  "a directory would end up below itself", "not a name", "too many inodes",
 }
 local NAME_OPS = { "lookup", "create", "mkdir", "remove", "rename", "list" }
 local ENTRY_KINDS = { "file", "directory" }
@@ -77,7 +77,7 @@ f.refusal = ProtoField.string("tank.refusal", "refusal")
 uint32("refusal_offset", "refused at this byte of the message")
 f.unread = ProtoField.bytes("tank.unread", "not read")
 f.row = ProtoField.none("tank.row", "row")
-f.piece = ProtoField.none("tank.piece", "begin of a frame")
+f.piece = ProtoField.none("tank.piece", "start of a frame")
 
 uint8("version", "version")
 uint8("kind", "kind", KINDS)
@@ -157,7 +157,7 @@ local function new_reader(bytes, begin, size, tree)
   return setmetatable({ bytes = bytes, begin = begin, size = size, at = 0, tree = tree, words = {}, depth = 0 }, Reader)
 end
 
--- Stops the reading. A fault has the item to mark, where a field was shown, and the offset, where
+-- Stops the reading. A fault has the item to mark, if a field was shown, and the offset, if
 -- it is `Value`.
 local function refuse(name, item, offset)
   error({ refusal = name, item = item, offset = offset }, 0)
@@ -175,7 +175,7 @@ function Reader:say(name, text)
   if self.depth == 0 then table.insert(self.words, name .. " " .. text) end
 end
 
--- A number of 1, 2 or 4 bytes from `low` to `high`. `is_good`, where it is given, says more of
+-- A number of 1, 2 or 4 bytes from `low` to `high`. `is_good`, if it is given, says more of
 -- which values are in range.
 function Reader:number(name, size, low, high, is_good)
   local offset = self.at
@@ -419,7 +419,7 @@ local function ends_of(kind)
   return LOCAL_ENDS[kind][1], LOCAL_ENDS[kind][2]
 end
 
--- What epoch, number and stamp of the control kinds may be, where it is not positive, positive and
+-- What epoch, number and stamp of the control kinds may be, if it is not positive, positive and
 -- any.
 local CONTROL_RANGES = {
   [1] = { "zero", "zero", "any" }, [10] = { "positive", "zero", "zero" }, [32] = { "positive", "zero", "any" },
@@ -515,12 +515,12 @@ local function next_offset(stream, pinfo, size)
   return known[known.read] or UInt64(0)
 end
 
--- Says that more bytes are needed for the frame that begins at `at`: `missing` of them, where this
+-- Says that more bytes are needed for the frame that begins at `at`: `missing` of them, if this
 -- is known.
 local function ask_for_more(bytes, pinfo, tree, at, missing)
   local left = bytes:len() - at
-  local text = missing and string.format("begin of a frame, %d of %d bytes", left, left + missing)
-    or string.format("begin of a frame, %d of its bytes", left)
+  local text = missing and string.format("start of a frame, %d of %d bytes", left, left + missing)
+    or string.format("start of a frame, %d of its bytes", left)
   pinfo.desegment_offset = at
   pinfo.desegment_len = missing or DESEGMENT_ONE_MORE_SEGMENT
   tree:add(tank, bytes(at), "Tavsligg node protocol"):add(f.piece, bytes(at)):set_text(text)

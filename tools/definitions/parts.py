@@ -75,7 +75,7 @@ def add_words(parser, lengths):
     parser.add_argument("--processors", type=int, default=1, metavar="N", help="how many processes work at the same time (1)")
     parser.add_argument("--lengths", type=lambda text: tuple(map(int, text.split(","))), default=lengths, metavar="N,..",
                         help=f"how many events a run may have: one of these is drawn ({','.join(map(str, lengths))})")
-    parser.add_argument("--until", type=int, default=20, metavar="N", help="a processor ends where it found this many (20)")
+    parser.add_argument("--until", type=int, default=20, metavar="N", help="a processor ends if it found this many (20)")
     parser.add_argument("--crates", default=str(comparing.ROOT / "crates"), metavar="FOLDER", help="the definitions are of this folder")
     add_promises(parser)
 

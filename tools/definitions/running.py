@@ -35,7 +35,7 @@ ASKS = ("all", "names", "cuts")
 THIRD_ASKS = "third"
 MOST_MEMORY = 4 << 30
 FORMS = (1, 2, 3)
-# Where this variable is set, only the promises that are named besides are judged; the compiled
+# If this variable is set, only the promises that are named in addition are judged; the compiled
 # program reads it too.
 ONLY_MORE = "TANK_ONLY_MORE"
 
@@ -100,7 +100,7 @@ def program_text(crates, more):
 
 
 def changed_text(crates, more, texts):
-    """What a program of these crates is to evaluate so that some modules, of st_rules or as
+    """What a program of these crates must evaluate so that some modules, of st_rules or as
     CRATE:MODULE, have these texts.
     """
     sources, before, *_ = base(str(crates), tuple(more))
@@ -179,7 +179,7 @@ def schedule_of(head, events):
 
 def read(schedule, forms=FORMS):
     """The head and the events of a schedule, up to what its reader refuses, and whether it refuses
-    nothing. The head is None where it is refused.
+    nothing. The head is None if it is refused.
     """
     reader, items = ScheduleReader(forms), []
     try:
@@ -199,7 +199,7 @@ class Definitions:
         self.program, self.process, self.change = built(crates or comparing.ROOT / "crates", more), None, change
 
     def ask(self, *request):
-        """What the program answers; where it ends or finds no clause, a text that begins with
+        """What the program answers; if it ends or finds no clause, a text that begins with
         `error`.
         """
         if self.process is None:

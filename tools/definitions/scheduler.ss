@@ -42,7 +42,7 @@
                   (one-of '(2 2 2 3 4)) servers (from-to servers (* 2 servers)) (from-to 1 6))
             (if (= form 3) (list (draw-limits)) '()))))
 
-; An event happens where it is admissible; the answer says whether.
+; An event happens if it is admissible; the answer says whether.
 (define (put run it)
   (let ([result (step-of run it)] [sent (length (messages-of run))])
     (and (is? result "Result.Ok")
@@ -295,7 +295,7 @@
     (drain run)
     (drain run)))
 
-; What may be done next, and how often. Where many asks are for names or cuts, what serves them is done more often.
+; What may be done next, and how often. If many asks are for names or cuts, what serves them is done more often.
 (define (work run) (put run (list 'app (a-client run) (an-ask run))) (drain run))
 (define deeds
   `((30 . ,work)

@@ -4,7 +4,7 @@ lines, its clauses in order.
 A record is a vector: the number of its layout, and its fields by name. A value of an enum is a
 vector: the number of its variant, and its fields. A list is a list, a number a number, `true` and
 `false` are #t and #f. In a promise `≡` is equality, `×` both, `⊤` true and `⊥` false; a record of
-facts is true where each of them is. All is evaluated strictly, except for `if`, `&&`, `||` and `×`.
+facts is true if each of them is. All is evaluated strictly, except for `if`, `&&`, `||` and `×`.
 """
 import re
 
@@ -89,7 +89,7 @@ class Translator:
         return self.own(self.sources.module(path), name)
 
     def own(self, module, name):
-        """What a name without a dot is in a module; None where it is nothing there."""
+        """What a name without a dot is in a module; None if it is nothing there."""
         if name in module.definitions:
             return "definition", module.definitions[name]
         if name in module.records:
@@ -293,7 +293,7 @@ class Translator:
         raise NotUnderstood(f"{module.path}: {found} has no value")
 
     def call(self, head, count, arguments):
-        """A function of this many arguments that gets these: a value where there are enough, and
+        """A function of this many arguments that gets these: a value if there are enough, and
         otherwise a function of the rest.
         """
         if len(arguments) < count:

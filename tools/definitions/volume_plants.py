@@ -112,7 +112,7 @@ SEEN_BY_USERS = {
     "a cut is done and answered `notholder`",
     "a client answers an acknowledged cut `notholder`",
     "a cut is acknowledged and not done",
-    "where a cut is acknowledged, `notholder` is kept as its reply",
+    "when a cut is acknowledged, `notholder` is kept as its reply",
     "operations that were sent are answered `quiesced`",
     "a request with a kept reply is served again",
     "a cut whose request is given up is answered `quiesced`",

@@ -389,7 +389,7 @@ class Driver:
         return None
 
     def run(self, length):
-        """So many events, or fewer."""
+        """This many events, or fewer."""
         for _ in range(length):
             event = self.next_event()
             if event is None:

@@ -48,7 +48,7 @@ class Progress:
         self.tool, self.begun, self.told = tool, time.monotonic(), time.monotonic() + 5
 
     def tell(self, what):
-        """Tells how far it is, where it is time to."""
+        """Tells how far it is, if it is time to."""
         if time.monotonic() >= self.told:
             self.told += 5
             print(f"{self.tool}: {time.monotonic() - self.begun:.0f} s, {what}", file=sys.stderr, flush=True)

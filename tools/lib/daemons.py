@@ -133,7 +133,7 @@ class Daemons:
         self.processes[name].wait()
 
     def ask(self, name, words, patience=PATIENCE):
-        """Asks a daemon, and returns its answer; None where it does not answer."""
+        """Asks a daemon, and returns its answer; None if it does not answer."""
         try:
             with socket.socket(socket.AF_UNIX) as stream:
                 stream.settimeout(patience)

@@ -4,7 +4,7 @@ not suspected. docs/PROTOCOL.md, "Healthy clients".
 
 
 def oldest_lease(settings, gap, delay):
-    """The age that a healthy client's lease never reaches, where the client ticks once in a gap and
+    """The age that a healthy client's lease never reaches, if the client ticks once in a gap and
     each message comes within the delay.
     """
     return max(settings.renew + gap, 2 * delay + 1) + 2 * delay

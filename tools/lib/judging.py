@@ -174,7 +174,7 @@ def schedule_items(schedule):
     return items[:1], items[1:-1], None
 
 
-# The line is None where all is accepted.
+# The line is None if all is accepted.
 Verdict = collections.namedtuple("Verdict", "line why whole")
 
 

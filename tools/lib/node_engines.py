@@ -73,7 +73,7 @@ class Ended(Exception):
 
 
 def end_with_parent():
-    """Has the kernel end this process when the one that started it ends, also where that one was
+    """Has the kernel end this process when the one that started it ends, even if that one was
     killed.
     """
     if LIBC is not None:
@@ -330,8 +330,8 @@ class Library:
         return [frame[4:] for frame in frames]
 
     def whole(self):
-        """The line of the step is written: notes where the journal ends, where that is another
-        place than before.
+        """The line of the step is written: notes where the journal ends, if that has
+        changed.
         """
         if self.is_longer:
             self.is_longer = False

@@ -103,7 +103,7 @@ function quiet() {
   return stretches;
 }
 
-// A map that is made of pieces: where a piece is hidden, it has no length.
+// A map that is made of pieces: if a piece is hidden, it has no length.
 function pieces(cuts, end) {
   const starts = [0], goals = [0], sizes = [];
   let at = 0, goal = 0;

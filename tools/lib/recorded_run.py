@@ -27,7 +27,7 @@ STEEPEST = 0.1  # by how much the rates of two machines' clocks are apart at the
 SUSPECT, GRACE_OVER = wire.CAUSE_NUMBERS["suspect"], wire.CAUSE_NUMBERS["graceover"]
 COMPARED = ("send", "submit", "answer")
 PREMISES = {
-    "ClockDrift": "a clock drifted from another one by more than the settings allow",
+    "ClockDrift": "a clock drifted from another by more than the settings allow",
     "FlushMissed": "a client with dirty pages took no step in the last part of its lease, or its writes were not reported before the lease ended",
     "LateDisk": "a disk command had its effect after the end of the lease under which it was submitted",
     "MessageUnknown": "a node took a message that no node sent",
@@ -79,7 +79,7 @@ class Item:
     def read_at(self, low, high):
         """Sets the reading of the node's clock. If it lies between two, and the step sent a
         request, the request's stamp is the reading, unless it lies outside: then the least reading
-        stays, and the check finds that the stamp is another one.
+        stays, and the check finds that the stamp differs.
         """
         self.low, self.high, self.reading = low, high, low
         if low == high:
@@ -224,11 +224,11 @@ def ways_of(nodes):
 
 
 def shift(nodes):
-    """Where a message came before it was sent, the moments are of several machines: moves those of
+    """If a message came before it was sent, the moments are of several machines: moves those of
     each node so that none does, in the middle of what is possible.
 
-    They are moved by a constant; and where no constants do, since the machines' clocks drifted,
-    along a straight line. Where that does not do either, messages wait later.
+    They are moved by a constant; and if no constants do, since the machines' clocks drifted,
+    along a straight line. If that does not do either, messages wait later.
     """
     ways = ways_of(nodes)
     if all(sent <= came for _, sent, _, came in ways):
@@ -342,7 +342,7 @@ class Clock:
         return self.now - before
 
     def take(self):
-        """Goes on to the reading of the next step; the increment, below 0 where the clock would go
+        """Goes on to the reading of the next step; the increment, below 0 if the clock would go
         back.
         """
         before, self.now = self.now, self.readings[self.done]
@@ -364,7 +364,7 @@ class Clocks:
             self.offsets.append(clock.now - (1000 * int(name[1:]) if name[0] == "s" else 0))
 
     def advance(self, at, name):
-        """The increments up to a moment, at which the node of this name takes a step; None where
+        """The increments up to a moment, at which the node of this name takes a step; None if
         its clock had to go back.
         """
         steps = {clock: clock.advance(at) for clock in (*self.clocks.values(), self.others)}
@@ -382,7 +382,7 @@ class Contents:
     page of one byte, and zeros stay.
 
     Nodes move the bytes of whole pages and never look at them, so a run and the one with other
-    contents are alike. Only where an application asked to write different bytes are all contents of
+    contents are alike. Only if an application asked to write different bytes are all contents of
     the run renamed; a patch has no such name. A page with more than 255 contents has one name for
     two of them.
     """
@@ -517,7 +517,7 @@ class Join:
         return True
 
     def is_done(self, it):
-        """Whether the command whose end a step takes was submitted, and had its effect where the
+        """Whether the command whose end a step takes was submitted, and had its effect if the
         trace tells one.
         """
         own = int.from_bytes(it.told.taken[38:46], "big")
@@ -621,7 +621,7 @@ class Join:
     def renamed(self, it, op, ask):
         """An ask as a schedule can have it."""
         if ask[0] == "patch" and (self.contents.is_used or len(set(ask[4])) > 1):
-            raise Problem("NotAnEvent", f"line {it.line} of the trace of {it.node} asks to patch, where a page or the patch has different bytes, as no schedule can")
+            raise Problem("NotAnEvent", f"line {it.line} of the trace of {it.node} asks to patch, and a page or the patch has different bytes, which no schedule can express")
         if ask[0] == "read":
             self.read[it.node, it.life, op] = (*ask[1], ask[2])
         return (*ask[:3], self.contents.of((*ask[1], ask[2]), ask[3])) if ask[0] == "write" else ask
@@ -644,7 +644,7 @@ class Join:
             f"its last write   {block_text(held)}{self.writer(command.place, held)}")
 
     def explain(self, number, place, found):
-        """Takes an earlier write of which nobody knows whether it was done as done, where that
+        """Takes an earlier write of which nobody knows whether it was done as done, if that
         explains what was found; whether there is one. If the block was used since then, the run
         must be joined once more.
         """
@@ -841,7 +841,7 @@ def broken(join, words, events, refused):
 
 
 def check(nodes, program, disk=None, tries=40):
-    """The verdict of a run, and its join. Where the reading of a clock lies between two, one that
+    """The verdict of a run, and its join. When the reading of a clock lies between two, one that
     agrees is looked for.
     """
     join = joined(nodes, program, disk)
@@ -932,7 +932,7 @@ def least_grain(join):
 
 def least_rate(join):
     """The smallest rate, in millionths, that accepts the run's clocks with the grain of its
-    settings; None where no rate does.
+    settings; None if no rate does.
     """
     grain, den, rate = int(join.words[8]), 1_000_000, 1_000_000
     advances = uneven(join)

@@ -1,6 +1,6 @@
 """Which laws and promises a rule serves: those whose proofs speak of it.
 
-A proof speaks of a rule where a lemma names one of its definitions, or a change of st_trace that
+A proof speaks of a rule if a lemma names one of its definitions, or a change of st_trace that
 the rule makes. Such a change has a type that names a definition of the rule, or a lemma of st_trace
 gets it from one. A law is a public function of a law crate. Its proof consists of the lemmas that
 the file of its name takes, of those of the same crate and of st_lemmas that they name, and so on.

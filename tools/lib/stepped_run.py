@@ -108,7 +108,7 @@ class Stepped:
 
 
 def why_not(state, words):
-    """Why the events' rules refuse this event now, as far as the run's texts tell; nothing where it
+    """Why the events' rules refuse this event now, as far as the run's texts tell; nothing if it
     is admissible. Of advances no premise is tried.
     """
     verb, number = words[0], int(words[1]) if words[0] in ("deliver", "lose", "effect", "report") else 0

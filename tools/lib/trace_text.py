@@ -38,7 +38,7 @@ class Start(NamedTuple):
 
 
 class Step(NamedTuple):
-    """The node took a message. `outputs` is None where it stopped before they left it. The reading
+    """The node took a message. `outputs` is None if it stopped before they left it. The reading
     lies between the two.
     """
 
@@ -156,7 +156,7 @@ def step_of(words):
 
 
 def line_of(words):
-    """What a line's words tell; None where that is nothing."""
+    """What a line's words tell; None if that is nothing."""
     if words[-1] == UNMADE:
         return None
     if words[:2] == ["trace", "1"] and len(words) > 3:

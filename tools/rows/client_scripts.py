@@ -180,7 +180,7 @@ def epochs(Row):
     r.hear(40, 2, 20, Nack(3, 1, 2), epoch=2)
     yield r
 
-    r = Row("a_new_epoch_forgets_what_was_under_way", "Waits, releases and demands are forgotten, and the locks are reasserted once more where a second epoch comes first.").leased()
+    r = Row("a_new_epoch_forgets_what_was_under_way", "Waits, releases and demands are forgotten, and the locks are reasserted once more if a second epoch comes first.").leased()
     r.hear(0, 0, 0, Granted(3, G2, S))
     r.read(0, 4, 0)
     r.hear(0, 3, 0, Queued(4, S))
@@ -398,7 +398,7 @@ def reads(Row):
     r.read(0, 2, 0)
     yield r
 
-    r = Row("extents_of_an_older_grant_are_not_learned", "Extents that were asked under another grant than the lock's are not known.")
+    r = Row("extents_of_an_older_grant_are_not_learned", "Extents that were asked under a grant other than the lock's are not known.")
     r.read(0, 2, 0)
     r.hear(0, 0, 0, Welcome())
     r.hear(0, 1, 0, Granted(2, G1, S))

@@ -131,6 +131,6 @@ def words():
 
 
 def files():
-    """The table, and what the crate prints where each row goes as it says."""
+    """The table, and what the crate prints if each row goes as it says."""
     rows = [*schedules(), *scripts(), *refusals(), *frames(), *words()]
     return {"crates/tank_rows/stdin": "".join(rows), "crates/tank_rows/stdout": f"rows: {len(rows)} passed, 0 bytes left over\n"}
