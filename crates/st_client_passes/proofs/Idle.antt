@@ -1,4 +1,4 @@
--- Where nothing waits a pass changes nothing.
+-- If nothing waits, a pass changes nothing.
 use Rattle.std.proofs.Common.{◌≡◌, ℕ, Bool, true, false, ◌&&◌, ◌||◌, not, if◌then◌else◌, List, [], ◌∷◌, ◌++◌, map, Option, Some, None, refl, sym, ap, ◌∙◌, append_assoc, append-nil, true≢false}
 use Rattle.std.proofs.lemmas.Bool.{or_parts}
 use Rattle.std.specs.Prelude.{nat_lt, ◌==◌}
@@ -62,7 +62,7 @@ others_stay all now (o ∷ os) t h =
     ∙ others_stay all now os (keep o t) q.1
     ∙ (λ i. with_operations (append_assoc t.operations (o ∷ []) os i) t)
 
--- where the pass may do nothing for any operation it changes nothing
+-- if the pass may do nothing for any operation, it changes nothing
 pub operations_idle : (now : Stamp) (t : Turn) → list_any (may_act t.here.server (has_session t)) t.operations ≡ false → operations now t ≡ t
 unfolding operations
 operations_idle now t h = others_stay t.operations now t.operations (with_operations [] t) h
@@ -138,7 +138,7 @@ module _ (s : ClientSession) (now : Stamp) (tick : Bool) where
   none_written [] t m w = refl
   none_written (x ∷ xs) t m w = ap (write_each s now tick xs) (none_page t (pages.dirty_of t.here.store.pages x.0 x.1) m w) ∙ none_written xs t m w
 
-  -- where nothing wants writes, none go out but in the flush phase
+  -- if nothing wants writes, none go out except in the flush phase
   pub writes_idle : (t : Turn) → t.here.session ≡ Some s → may_drain (standing_of t.config s.lease now) ≡ false → locks.demanded_files s.locks ≡ [] → list_any (wants_writes t.here.server) t.operations ≡ false → writes now tick t ≡ t
   unfolding writes writes_by
   writes_idle t e m d h = ap (writes_by t now tick) e ∙ none_written (pages.dirty_places t.here.store.pages) t m (none_wanted t s d h)

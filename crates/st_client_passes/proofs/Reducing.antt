@@ -11,7 +11,7 @@ use Rattle.st_rules.specs.ClientState.{Turn, with_cache, with_session}
 use Rattle.st_client_association.specs.Turns.{has_session, session_of}
 use Rattle.st_client_passes.proofs.Sessions.{session_is}
 
--- where nothing is given up the locks stay
+-- if nothing is given up, the locks stay
 kept_lock : (c : LockCache) (d : DemandedFile) (l : Option HeldLock) → (reduce_lock c d l).given ≡ None → (reduce_lock c d l).locks ≡ c
 unfolding reduce_lock
 kept_lock c d None e = refl

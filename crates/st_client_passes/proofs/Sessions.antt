@@ -59,7 +59,7 @@ nothing_in : {A : Type 0} (xs : List A) → is_any xs ≡ false → xs ≡ []
 nothing_in [] e = refl
 nothing_in (x ∷ xs) e = absurd (true≢false e)
 
--- where no lock is demanded, no file is
+-- if no lock is demanded, no file is
 pub none_demanded : (c : LockCache) → is_any c.demanded ≡ false → locks.demanded_files c ≡ []
 unfolding rising
 none_demanded c e = ap (λ ds. rising (map locks.ino_of_demand ds)) (nothing_in c.demanded e)

@@ -33,7 +33,7 @@ unfolding excess_from
 low_rows limit m [] b h = tt
 low_rows limit m (row ∷ rows) b h = let q = none_or _ _ h in (low_row limit m 0 row b q.0, low_rows limit (m + 1) rows b q.1)
 
--- where no pair is above the limit, all numbers are low
+-- if no pair is above the limit, all numbers are low
 pub low_after : (drift : List (List ℕ)) (den grain : ℕ) → den ≤ 1048576 → grain ≤ 2 ^ 40 → first_excess drift den grain ≡ None → AllLow drift
 unfolding first_excess
 low_after drift den grain d g h = low_rows (den * grain) 0 drift (let q = mul-le-mul d g in omega (arith, q)) h

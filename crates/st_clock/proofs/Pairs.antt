@@ -52,7 +52,7 @@ ends (d ∷ done) (b ∷ before) during s e = go (ends done before during s (tai
 exact_or_zero : (num den e sm sn : ℕ) → (raised num den e sm sn + num * sn ≡ e + den * sm) ⊎ (raised num den e sm sn ≡ 0)
 exact_or_zero num den e sm sn = grind arith
 
--- the numbers that stand for a pair are one number
+-- the numbers that stand for a pair are the same number
 pub one_excess : (k : Config) (advances : List (List ℕ)) (m n d e : ℕ) → IsExcess k advances m n d → IsExcess k advances m n e → d ≤ e
 one_excess k advances m n d e a b = let q = b.most a.before a.during a.split in omega (arith, q, a.reached)
 

@@ -127,7 +127,7 @@ name_at least most bytes = do
 unfoldable pub whole_page_at : Reader (List ℕ)
 whole_page_at bytes = text_at 4096 bytes
 
--- the bytes of a patch end with the page at the latest
+-- the bytes of a patch end where the page ends, or before
 unfoldable pub patch_bytes_at : ℕ → Reader (List ℕ)
 patch_bytes_at at bytes = do
   n ← word16_in 1 (4096 - at) bytes

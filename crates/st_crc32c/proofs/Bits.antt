@@ -1,4 +1,4 @@
--- Dividing a bit out is linear, and no remainder comes of two.
+-- Dividing a bit out is linear, and different numbers leave different remainders.
 use Rattle.std.proofs.Common.{◌≡◌, ◌≢◌, ◌<◌, ◌≤◌, ◌+◌, ◌*◌, ◌/◌, ◌%◌, ◌^◌, ◌⊎◌, ℕ, zero, suc, refl, sym, ap, ◌∙◌, subst, inl, inr, arith}
 use Rattle.std.specs.Int.Bits.{bit_xor, xor_assoc, xor_comm, xor_lt, xor_mod, xor_self, xor_shr, xor_zero_l, xor_zero_r}
 use Rattle.st_crc32c.specs.Crc.{POLYNOMIAL, bit_out, byte_out}
@@ -38,7 +38,7 @@ bit_out-xor a b =
     (ap (λ (n : ℕ). bit_xor (bit_xor (a / 2) (b / 2)) (n * POLYNOMIAL)) odd ∙
     (ap (bit_xor (bit_xor (a / 2) (b / 2))) times ∙ xor_four (a / 2) (b / 2) ((a % 2) * POLYNOMIAL) ((b % 2) * POLYNOMIAL)))
 
--- two numbers whose difference is nothing are one
+-- two numbers whose difference is 0 are equal
 pub xor_same : (a b : ℕ) → bit_xor a b ≡ 0 → a ≡ b
 xor_same a b e =
     sym (xor_zero_r a) ∙ (ap (bit_xor a) (sym (xor_self b)) ∙ (sym (xor_assoc a b b) ∙ (ap (λ (n : ℕ). bit_xor n b) e ∙ xor_zero_l b)))
@@ -46,7 +46,7 @@ xor_same a b e =
 pub same_xor : (a b : ℕ) → a ≡ b → bit_xor a b ≡ 0
 same_xor a b e = ap (λ (n : ℕ). bit_xor n b) e ∙ xor_self b
 
--- what is nothing once its lowest bit is divided out was nothing
+-- what is 0 once its lowest bit is divided out was 0
 nothing_by : (c : ℕ) → c < 2 ^ 32 → (c % 2 ≡ 0) ⊎ (c % 2 ≡ 1) → bit_xor (c / 2) ((c % 2) * POLYNOMIAL) ≡ 0 → c ≡ 0
 nothing_by c small_c (inl even) e =
     let half : c / 2 ≡ (c % 2) * POLYNOMIAL = xor_same (c / 2) ((c % 2) * POLYNOMIAL) e in
@@ -64,12 +64,12 @@ pub bit_out_small : (c : ℕ) → c < 2 ^ 32 → bit_out c < 2 ^ 32
 unfolding bit_out
 bit_out_small c small_c = xor_lt 32 (c / 2) ((c % 2) * POLYNOMIAL) (omega (arith, small_c)) (small c)
 
--- no two remainders become one
+-- different remainders stay different
 pub bit_out_once : (a b : ℕ) → a < 2 ^ 32 → b < 2 ^ 32 → bit_out a ≡ bit_out b → a ≡ b
 bit_out_once a b small_a small_b e =
     xor_same a b (nothing (bit_xor a b) (xor_lt 32 a b small_a small_b) (bit_out-xor a b ∙ same_xor (bit_out a) (bit_out b) e))
 
--- after so many bits the same holds
+-- after this many bits the same holds
 
 outs : ℕ → ℕ → ℕ
 outs zero c = c

@@ -1,4 +1,4 @@
--- Bytes of which one is another one have another sum.
+-- If one byte changes, the sum does.
 use Rattle.std.proofs.Common.{◌≡◌, ◌≢◌, ◌<◌, ◌^◌, ℕ, List, [], ◌∷◌, ◌++◌, refl, sym, ap, ◌∙◌, arith}
 use Rattle.std.specs.Int.Bits.{bit_xor, xor_assoc, xor_lt, xor_self, xor_zero_l, xor_comm}
 use Rattle.st_crc32c.specs.Crc.{after_bytes, are_bytes, byte_out, crc32c}
@@ -29,7 +29,7 @@ after_once (x ∷ xs) a b h s t e =
     after_once xs (byte_out (bit_xor a x)) (byte_out (bit_xor b x)) h.1 (byte_out_small (bit_xor a x) (with_small a x s h.0)) (byte_out_small (bit_xor b x) (with_small b x t h.0)) e in
     xor_once a b x (byte_out_once (bit_xor a x) (bit_xor b x) (with_small a x s h.0) (with_small b x t h.0) one)
 
--- up to a byte that is another one
+-- up to the byte that changes
 one_byte : (c a b : ℕ) (before behind : List ℕ) → c < 2 ^ 32 → are_bytes before → are_bytes behind → a < 256 → b < 256 → after_bytes c (before ++ a ∷ behind) ≡ after_bytes c (before ++ b ∷ behind) → a ≡ b
 one_byte c a b [] behind s h k la lb e =
     let one : byte_out (bit_xor c a) ≡ byte_out (bit_xor c b) =

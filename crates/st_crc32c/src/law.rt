@@ -1,7 +1,7 @@
 ghost use Rattle.std.specs.Prelude.{◌≡◌, ◌≢◌, ◌<◌, ◌++◌, ◌∷◌, [], List, ℕ, replicate};
 ghost use Rattle.st_crc32c.specs.Crc.{are_bytes, crc32c};
 
-/// Bytes of which one is another one have another sum.
+/// If one byte changes, the sum does.
 #[tactic(auto, using(crate::proofs::OneByte::another_sum))]
 pub fn another_byte_is_told()
     ensures { (before behind : List ℕ) (a b : ℕ) → are_bytes before → are_bytes behind → a < 256 → b < 256 → a ≢ b → crc32c (before ++ a ∷ behind) ≢ crc32c (before ++ b ∷ behind) }

@@ -1,5 +1,5 @@
 //! CRC-32C, the checksum of storage protocols (Castagnoli's polynomial), and what it is good for:
-//! one byte that is another one is always told.
+//! it always shows that one byte has changed.
 #![tactic(auto)]
 
 mod crc;

@@ -1,4 +1,4 @@
--- A change that is applied leaves the stable part as it was where its mark stays the same.
+-- A change that is applied leaves the stable part as it was if its mark stays the same.
 use Rattle.st_lemmas.proofs.Words
 use Words.{◌≡◌, ℕ, ◌+◌, ◌^◌, ◌<◌, ◌≤◌, Bool, true, false, ◌==◌, not, cond, List, [], ◌∷◌, length, Option, Some, None, refl, sym, ap, subst, ◌∙◌, arith, ◌&&◌}
 use Words.{bytes_eq, find, filter, map, is_some, nat_lt, nat_le, Result, Ok, Err, and_parts, eqb-true, leb-true, BlockAt, FileId, PageNo, AllocateRefusal}
@@ -138,7 +138,7 @@ module _ (n : Names) (dir : ℕ) (name : List ℕ) where
       at None p = found p (names.entry_at n dir name) refl
 
   module _ (dir2 : ℕ) (name2 : List ℕ) where
-    -- the new name is another one than the old one
+    -- the new name differs from the old one
     is_other : (e : NameEntry) → names.entry_at n dir name ≡ Some e → is_some (names.entry_at n dir2 name2) ≡ false → ((dir2 == dir) && bytes_eq name2 name) ≡ false
     is_other e q free = go ((dir2 == dir) && bytes_eq name2 name) refl
       where
@@ -184,7 +184,7 @@ module _ (n : Names) (dir : ℕ) (name : List ℕ) where
         at (Some r) p = tt
         at None p = found (first_none (names.place_refusal n dir name) (names.place_refusal n dir2 name2) p) (names.entry_at n dir name) refl
 
--- What a change makes of a stable part: it is as it was where the mark stays the same, and of the same server.
+-- What a change makes of a stable part: it is as it was if the mark stays the same, and of the same server.
 pub record MarksTell (t u : Stable) (x : Change) : Type 0 where
   pub same : mark u x ≡ mark t x → u ≡ t
   pub server : u.extents.server ≡ t.extents.server

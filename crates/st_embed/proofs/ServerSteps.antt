@@ -26,7 +26,7 @@ pub has_placed : (old new : Stable) (body : Body) (o : Option Change) (size gate
 has_placed old new body None size gate room told asked = tt
 has_placed old new body (Some x) size gate room made asked = (made.ranges, omega (arith, room (ap is_some asked), bytes_few x made.ranges, record_long x))
 
--- what must be kept, where that is reported
+-- what must be kept, if that is reported
 kept_is : (o : Option Change) (b : Bool) → b ≡ is_some o → (if b then o else None) ≡ o
 kept_is None b e = ap (λ (c : Bool). if c then None else None) e
 kept_is (Some x) b e = ap (λ (c : Bool). if c then Some x else None) e

@@ -96,7 +96,7 @@ none_stays : (xs : List Change) (u : Stable) → after_changes None xs ≡ Some 
 none_stays [] u e = cc
 none_stays (x ∷ xs) u e = none_stays xs u e
 
--- what holds after some changes: so many may have raised the counters
+-- what holds after some changes: this many may have raised the counters
 pub record IsReached (n : ℕ) (server : ServerId) (t : Stable) : Type 0 where
   pub good : IsGood t
   pub low : AreLow n t

@@ -63,7 +63,7 @@ pub record MayOpen (id : ClientId) (k : Config) (lives : List ℕ) : Type 0 wher
   pub servers : length lives ≤ 4
   pub lives_so : are_lives lives ≡ true
 
--- why it is not opened, in the order of the checks; memory may be wanting for any that may be opened
+-- why it is not opened, in the order of the checks; memory may run out for any client that may be opened
 abbrev pub NotOpened : ClientId → Config → List ℕ → OpenFault → Type 0
 NotOpened id k lives (opening.Settings r) = check k ≡ Err r
 NotOpened id k lives opening.Number = IsOk (check k) × (is_client id ≡ false)
@@ -93,7 +93,7 @@ pub record Steps (old new : EmbeddedClient) (now : Stamp) (frame : List ℕ) : T
   pub left : new.left ≡ (handle (Client old.node) now message).out
   pub last : new.last ≡ now
 
--- Why there is no step, in the order of the checks. Memory may be wanting for one that runs; in a step that may be taken the node crashes then.
+-- Why there is no step, in the order of the checks. Memory may run out for a client that runs; then, if the step may be taken, the node crashes.
 abbrev pub Refuses : EmbeddedClient → EmbeddedClient → Stamp → List ℕ → StepRefusal → Type 0
 Refuses old new now frame refusals.Crashed = (old.node.running ≡ false) × (new ≡ old)
 Refuses old new now frame refusals.Untaken = (old.node.running ≡ true) × (old.left ≢ []) × (new ≡ old)
@@ -103,6 +103,6 @@ Refuses old new now frame refusals.Full = (old.node.running ≡ true) × (old.le
 Refuses old new now frame refusals.Memory = (old.node.running ≡ true) × (new ≡ old)
 Refuses old new now frame refusals.Starved = ((m : Message) × MayStep old now frame m) × (new ≡ record { node = crash_node old.node; left = []; last = now })
 
--- A life at one of the servers is another one.
+-- A life at one of the servers has changed.
 abbrev pub has_new_life : ClientState → ClientState → Bool
 has_new_life old new = not (same_lives (four_lives old) (four_lives new))

@@ -128,7 +128,7 @@ pub record IsNotStarted (start : Stable) (bytes : List ℕ) (f : ServerFault) : 
   pub stands : StandsFor start bytes changes stable
   pub why : NotStarted stable f
 
--- why a server is not opened, in the order of the checks; memory may be wanting for any that may be opened
+-- why a server is not opened, in the order of the checks; memory may run out for any server that may be opened
 abbrev pub NotOpened : ServerId → Config → Shape → Stamp → List ℕ → ServerFault → Type 0
 NotOpened id k w now bytes (opening.Settings r) = check k ≡ Err r
 NotOpened id k w now bytes opening.Shape = IsOk (check k) × (IsWithinLimits id.0 w.servers w.disks w.blocks → ⊥)

@@ -249,8 +249,8 @@ impl EmbeddedClient {
 
     /// Takes a step for the message of one frame, with its length, at this moment. Moments never
     /// fall, and are at most 2^62. A message that isn't an input of the client is ignored. Returns
-    /// whether a life at one of the servers is another one than before: then the lives must be kept
-    /// before any byte of this step is sent.
+    /// whether a life at one of the servers has changed: then the lives must be kept before any
+    /// byte of this step is sent.
     ///
     /// # Errors
     /// All but `Starved` change nothing. `Starved` leaves a client that is crashed, in the lives

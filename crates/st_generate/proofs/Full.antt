@@ -1,4 +1,4 @@
--- Where the network is full nothing is sent, so that a run sends few messages, and as many as one event may.
+-- If the network is full, nothing is sent, so that a run sends few messages, and as many as one event may.
 use Rattle.st_lemmas.proofs.Words
 use Words.{◌≡◌, ◌*◌, ◌+◌, ◌<◌, ◌≤◌, ◌⊎◌, inl, inr, ℕ, Bool, true, false, List, [], ◌∷◌, length, Option, Some, None, Ok, Err, refl, sym, subst, arith}
 use Words.{if◌then◌else◌, Result, nat_le, pred, cases_lt, le-leb, NodeId, Event, DiskCommand, WorldRefusal, SentMessage}

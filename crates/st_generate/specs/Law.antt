@@ -52,8 +52,8 @@ unfoldable pub SendsFew : ℕ → List Event → World → Type 0
 SendsFew most [] w = ⊤
 SendsFew most (e ∷ es) w = SendsFewOn most (SendsFew most es) w (world_step w e)
 
--- A run sends at most 14,128,181 messages, and as many as one of its events sends at most: a message has at least 38 bytes, and where
--- there are 536,870,912 bytes nothing is sent.
+-- A run sends at most 14,128,181 messages, and as many as one of its events sends at most: a message has at least 38 bytes, and if
+-- there are 536,870,912 bytes, nothing is sent.
 abbrev pub Sent_is_bounded : Type 0
 Sent_is_bounded = (most n seed : ℕ) → SendsFew most (generate n seed) generator_world → (work n seed).sent ≤ 14128181 + most
 

@@ -15,7 +15,7 @@ pub record IsHeld (made kept limit : ℕ) : Type 0 where
   pub made_so : made ≤ 2 ^ 62
   pub limit_so : limit < 2 ^ 62
 
--- Fewer changes wait than may.
+-- Fewer changes wait than may wait.
 abbrev pub may_step : {T : Type 0} → Held T → Bool
 may_step h = nat_lt h.made (h.kept + h.limit) && nat_lt h.made (2 ^ 62)
 
@@ -28,7 +28,7 @@ made_after made false = made
 abbrev pub stepped : {T : Type 0} → Held T → T → Bool → Held T
 stepped h what changed = record h { steps = h.steps ++ record { what = what; changes = made_after h.made changed } ∷ []; made = made_after h.made changed }
 
--- So many more changes are kept, at most all that wait.
+-- This many more changes are kept, at most all that wait.
 abbrev pub kept_more : {T : Type 0} → Held T → ℕ → Held T
 kept_more h count = record h { kept = if nat_lt (h.kept + count) h.made then h.kept + count else h.made }
 

@@ -1,4 +1,4 @@
--- What may happen to held steps: steps, which a program takes while fewer changes wait than may; changes that are kept; and what is taken.
+-- What may happen to held steps: steps, which a program takes while fewer changes wait than may wait; changes that are kept; and what is taken.
 use Rattle.std.specs.Prelude.{ℕ, nat_le, if◌then◌else◌, Bool, List, [], ◌∷◌, ◌++◌}
 use Rattle.st_held_steps.specs.Held.{Held, kept_more, made_after, may_step, stepped}
 use Rattle.st_held_steps.specs.declared.held.Marked.{Marked}

@@ -54,7 +54,7 @@ impl<T: Drop> HeldSteps<T> {
         self.made - self.kept
     }
 
-    /// Whether a step may be taken: fewer changes wait than may.
+    /// Whether a step may be taken: fewer changes wait than may wait.
     pub fn may_step(&self) -> bool
         ensures { result ≡ held.may_step self.now }
     {
@@ -75,7 +75,7 @@ impl<T: Drop> HeldSteps<T> {
         Ok(())
     }
 
-    /// So many more changes are kept, at most all that wait.
+    /// This many more changes are kept, at most all that wait.
     pub fn keep(&mut self, count: u64)
         ensures { self.new ≡ held.kept_more self.old count }
     {

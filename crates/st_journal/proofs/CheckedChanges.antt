@@ -41,7 +41,7 @@ module _ (x : extents.Extents) (f : FileId) (first : ℕ) (pages total : ℕ) (i
   unfolding extents.numbers
   pages_counted l h = let e : n - i ≡ 0 = omega arith in let none = rw e at h in omega (arith, none)
 
--- a page is mapped where its place is found
+-- a page is mapped if its place is found
 pub mapped_some : (o : Option Extent) → is_some (option_map extents.place_and_birth o) ≡ is_some o
 mapped_some None = refl
 mapped_some (Some e) = refl

@@ -209,7 +209,7 @@ unfolding removed
 removed_ok t (Ok c) u e = (c, refl, ok_is ChangeRefusal (without t c) u e)
 removed_ok t (Err r) u e = absurd cc
 
--- The fields of a change that applies fit, where its numbers are in their ranges.
+-- The fields of a change that applies fit if its numbers are in their ranges.
 pub applied_fits : (t : Stable) (x : Change) (u : Stable) → apply t x ≡ Ok u → is_ranged x ≡ true → has_words x ≡ true → fits x ≡ true
 unfolding apply fits is_ranged has_words names.create names.mkdir
 applied_fits t kinds.Epoch u e r w = refl

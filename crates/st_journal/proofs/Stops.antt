@@ -78,7 +78,7 @@ armed_works p n byte a =
       record { none = a.none; runs = a.runs; set = ap (λ (s : Option Stop). plans.counted_down s) a.set ∙ ap (λ (k : ℕ). stop_in k byte) less },
     )
 
--- No byte of the gate is loose where a crash leaves the journal as it is.
+-- No byte of the gate is loose if a crash leaves the journal as it is.
 
 same_loose : (fill : Option ℕ) (h : Held) → (after_fill fill h).loose ≡ h.loose
 same_loose None h = refl

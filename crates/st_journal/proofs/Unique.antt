@@ -63,7 +63,7 @@ one_list (x ∷ xs) (y ∷ ys) g h r q e f shut closed same =
 pub one_journal : (bytes : List ℕ) (xs ys : List Change) → IsJournal bytes xs → IsJournal bytes ys → xs ≡ ys
 one_journal bytes xs ys j k = one_list xs ys j.gate k.gate j.rest k.rest j.ranges k.ranges j.closed k.closed (sym j.parts ∙ k.parts)
 
--- where a journal has an open gate, one of its changes follows
+-- if a journal has an open gate, one of its changes follows
 record Follows (xs ys : List Change) (rest : List ℕ) : Type 0 where
   next : Change
   later : List Change

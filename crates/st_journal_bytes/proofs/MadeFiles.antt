@@ -68,7 +68,7 @@ has_header bytes h (faults.OtherServer s) i n = n
 has_header bytes h faults.OtherShape i n = n
 has_header bytes h faults.OtherSettings i n = n
 
--- an identity is not another one than itself
+-- an identity does not differ from itself
 not_other : (found wanted : Identity) (f : HeaderFault) → found ≡ wanted → IsOther found wanted f → ⊥
 not_other found wanted (faults.OtherServer s) e o = o.1 (ap (λ (i : Identity). i.server) e)
 not_other found wanted faults.OtherShape e o =

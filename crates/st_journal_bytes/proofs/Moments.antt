@@ -20,7 +20,7 @@ after_records-last : (o : Option ℕ) (xs : List (List ℕ)) (x : List ℕ) → 
 after_records-last o [] x = refl
 after_records-last o (y ∷ ys) x = after_records-last (after_record o y) ys x
 
--- bytes that were read as records in so many bytes, the moment of the last one, and the bytes that are left
+-- bytes that were read as records in this many bytes, the moment of the last one, and the bytes that are left
 pub record AreDatedTo (bytes rest : List ℕ) (place : ℕ) (first last : Option ℕ) : Type 0 where
   pub records : List (List ℕ)
   pub parts : bytes ≡ all_opened plain records ++ rest

@@ -60,7 +60,7 @@ split_32 bytes long fits =
 pub number_small : (bytes : List ℕ) → IsBytes bytes → from_be_bytes w32 bytes < 2 ^ 32
 number_small bytes fits = omega (arith, fits 0, fits 1, fits 2, fits 3)
 
--- a front and the bytes after it, where the front's length is known
+-- a front and the bytes after it, if the front's length is known
 front_once : (a b r q : List ℕ) (n : ℕ) → length a ≡ n → length b ≡ n → a ++ r ≡ b ++ q → (a ≡ b) × (r ≡ q)
 front_once a b r q n m l e = (
   sym (take_at a r n m) ∙ (ap (λ (xs : List ℕ). take n xs) e ∙ take_at b q n l),

@@ -16,11 +16,11 @@ length-part a =
     let whole : length (part plain a ++ []) ≡ length (word32 (length a) ++ (word32 (crc32c (word32 (length a))) ++ (a ++ (word32 (crc32c a) ++ [])))) = ap length (part_is a []) in
     omega (arith, simp (length-append, length-word32) at whole)
 
--- parts of bytes that a word can number are one where the bytes are
+-- parts whose lengths a word can hold are the same if the bytes are
 pub part_once : (a b r q : List ℕ) → length a < 2 ^ 32 → length b < 2 ^ 32 → part plain a ++ r ≡ part plain b ++ q → (a ≡ b) × (r ≡ q)
 part_once a b r q short shorter e = pair_once (a, r) (b, q) (sym (part_reads a r short) ∙ (ap part_at e ∙ part_reads b q shorter))
 
--- bytes that were read as these records, so many of them in so many bytes, and those that are left
+-- bytes that were read as these records, this many of them in this many bytes, and those that are left
 pub record IsReadTo (bytes rest : List ℕ) (place number : ℕ) : Type 0 where
   pub records : List (List ℕ)
   pub parts : bytes ≡ all_opened plain records ++ rest

@@ -87,7 +87,7 @@ pub record HasShape (a b : Identity) : Type 0 where
   pub disks : a.disks ≡ b.disks
   pub blocks : a.blocks ≡ b.blocks
 
--- why a journal is another one's than the one that is wanted, in the order of the checks
+-- why a journal isn't the one that is wanted, in the order of the checks
 abbrev pub IsOther : Identity → Identity → HeaderFault → Type 0
 IsOther found wanted (OtherServer n) = (n ≡ found.server) × (found.server ≢ wanted.server)
 IsOther found wanted OtherShape = (found.server ≡ wanted.server) × (HasShape found wanted → ⊥)

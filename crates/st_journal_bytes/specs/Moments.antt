@@ -35,7 +35,7 @@ dated f =
           f.sum;
     }
 
--- the moment with which bytes begin, where they are long enough
+-- the moment with which bytes begin, if they are long enough
 abbrev pub moment_of : List ℕ → Option ℕ
 moment_of bytes = if nat_lt (length bytes) 8 then None else Some (from_be_bytes w64 (take 8 bytes))
 
@@ -44,7 +44,7 @@ abbrev pub later : ℕ → Option ℕ → Option ℕ
 later m None = None
 later m (Some n) = if nat_lt n m then None else Some n
 
--- The moment of the last record; none, where a record has no moment or one that is earlier than the moment before it.
+-- The moment of the last record; none, if a record has no moment or one that is earlier than the moment before it.
 
 abbrev pub after_record : Option ℕ → List ℕ → Option ℕ
 after_record None x = None
@@ -61,7 +61,7 @@ pub record HaveMoment (bytes : List ℕ) (first last : Option ℕ) : Type 0 wher
   pub parts : bytes ≡ all_opened plain records ++ CLOSED ∷ rest
   pub moment : last ≡ after_records first records
 
--- the moment of the last record of an area, or of its snapshot where there is no record
+-- the moment of the last record of an area, or of its snapshot if there is no record
 pub record HasMoment (bytes : List ℕ) (last : Option ℕ) : Type 0 where
   pub snapshot : List ℕ
   pub records : List (List ℕ)

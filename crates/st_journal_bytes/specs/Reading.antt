@@ -18,7 +18,7 @@ word32_at bytes = if nat_lt (length bytes) 4 then None else Some (from_be_bytes 
 abbrev pub text_at : ℕ → List ℕ → Option (List ℕ × List ℕ)
 text_at n bytes = if nat_lt (length bytes) n then None else Some (take n bytes, drop n bytes)
 
--- what follows these bytes, where they are in front
+-- what follows these bytes, if they are in front
 abbrev pub after_front : List ℕ → List ℕ → Option (List ℕ)
 after_front front bytes = if bytes_eq (take (length front) bytes) front then Some (drop (length front) bytes) else None
 

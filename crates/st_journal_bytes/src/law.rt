@@ -12,7 +12,7 @@ pub fn an_area_is_read_in_one_way()
     ensures read { (bytes s : List ℕ) (xs : List (List ℕ)) (e : AreaEnd) → length bytes < 2 ^ 32 → IsRead bytes e → IsArea plain bytes s xs → e.gate ≡ length (front plain s xs) }
 {}
 
-/// Where each change is spelled with its moment, moments never fall, and what is read in an area as
+/// If each change is spelled with its moment, moments never fall, and what is read in an area as
 /// its last moment is the one of the state that it stands for.
 pub fn a_journal_has_the_moment_of_its_last_change<S, C>()
     ensures area { (f : Format S C) (bytes : List ℕ) (s : Dated S) (xs : List (Dated C)) → HasSum f → IsArea (dated f) bytes s xs → IsArea plain bytes ((dated f).snapshot s) (map (dated f).spelled xs) }

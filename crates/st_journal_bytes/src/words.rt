@@ -104,7 +104,7 @@ pub(crate) fn read_text(len: usize, bytes: &[u8]) -> Option<(&[u8], &[u8])>
     Some(bytes.split_at(len))
 }
 
-/// The bytes after these ones, where they are in front.
+/// The bytes after these ones, if they are in front.
 pub(crate) fn after_front<'a>(front: &[u8], bytes: &'a [u8]) -> Option<&'a [u8]>
     ensures { option_map (λ x. x.now) result ≡ reading.after_front front.now bytes.now }
 {

@@ -64,7 +64,7 @@ flips_at : (xs r zs : List ℕ) → IsFlipped (xs ++ r) zs → FlipsAt xs r zs
 flips_at [] r zs f = record { first = []; second = zs; parts = refl; size = refl; split = Second refl f }
 flips_at (x ∷ xs) r zs f = flips_first x xs r (λ cs g. flips_at xs r cs g) (x ∷ (xs ++ r)) zs f refl
 
--- the same, where it is known what is there
+-- the same, if it is known what is there
 flips_in : (xs ys r q : List ℕ) → length xs ≡ length ys → IsFlipped (xs ++ r) (ys ++ q) → Splits xs ys r q
 flips_in xs ys r q n f =
     let i = flips_at xs r (ys ++ q) f in
@@ -83,7 +83,7 @@ xor_nothing a b e =
 other_byte : (a k : ℕ) → a ≢ bit_xor a (2 ^ k)
 other_byte a k e = let none : 2 ^ k ≡ 0 = xor_nothing a (2 ^ k) (sym e) in omega (arith, pow_pos k, none)
 
--- the bytes around the one that is another one
+-- the bytes around the one that differs
 pub record Differs (xs ys : List ℕ) : Type 0 where
   pub before : List ℕ
   pub behind : List ℕ
@@ -168,7 +168,7 @@ module _ {S C : Type 0} (f : Format S C) (proper : IsProper f) where
   unfolding part
   part_is a r = simp append_assoc
 
-  -- where two parts begin bytes of which one bit flipped, they are the same, and the bit is after them
+  -- if two parts begin bytes of which one bit flipped, they are the same, and the bit is after them
   body_flips : (a b r q : List ℕ) → are_bytes a → are_bytes b → length a ≡ length b → Splits a b (word32 (f.sum a) ++ r) (word32 (f.sum b) ++ q) → (a ≡ b) × IsFlipped r q
   body_flips a b r q bytes others n (First flip same) =
       absurd (no_flip a b bytes others flip (split_same (word32 (f.sum a)) (word32 (f.sum b)) r q (words_same (f.sum a) (f.sum b)) same).0)

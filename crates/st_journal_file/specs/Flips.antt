@@ -1,4 +1,4 @@
--- Bits that flip: one bit of some bytes is another one.
+-- Bits that flip: one bit of some bytes changes.
 use Rattle.std.specs.Prelude.{◌≡◌, ◌<◌, ◌^◌, ℕ, List, [], ◌∷◌, length, bit_xor}
 use Rattle.st_crc32c.specs.Crc.{are_bytes, crc32c}
 use Rattle.st_journal_file.specs.Layout.{Format}

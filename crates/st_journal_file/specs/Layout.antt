@@ -21,7 +21,7 @@ OPEN = 255
 unfoldable pub word32 : ℕ → List ℕ
 word32 n = to_be_bytes w32 n
 
--- Some bytes with their number in front, and a sum of either: whichever byte is another one, a sum does not fit.
+-- Some bytes with their number in front, and a sum of either: whichever byte changes, a sum does not fit.
 unfoldable pub part : {S C : Type 0} → Format S C → List ℕ → List ℕ
 part f body = word32 (length body) ++ (word32 (f.sum (word32 (length body))) ++ (body ++ word32 (f.sum body)))
 

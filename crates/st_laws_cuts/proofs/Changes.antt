@@ -57,7 +57,7 @@ record CameFrom (t : World) (s : ServerId) (new : ServerNode) : Type 0 where
 abbrev AllCame : World → World → Type 0
 AllCame t v = (s : ServerId) (new : ServerNode) → node_of v s ≡ Some new → CameFrom t s new
 
--- servers that stay, and one that is another one
+-- servers that stay, and one that changes
 stay : (t v : World) → v.servers ≡ t.servers → AllCame t v
 stay t v q s new at = record { old = new; was = ap (λ z. numbered z s.0) (sym q) ∙ at; how = inl refl }
 

@@ -58,7 +58,7 @@ module _ (c : ClientId) (K : ℕ → Type 0) (G : List Output) (s : ServerId) (B
       (outputs.Send (record { header = cs.header_of t epoch number stamp; body = body }))
   sent_fine t epoch number stamp body e = ((ap (λ (y : ClientId). y.0) e, refl), refl)
 
-  -- A new request, where none is outstanding.
+  -- A new request, if none is outstanding.
   whole_after_ask : (t : Turn) (x : ClientSession) (now : Stamp) (body : Body) (cutting : Option ℕ) →
       (cs.asks_cut_or_name body ≡ true → Owner t.here.server cutting body t.operations) → CC t → WW (asking.asked t x now body cutting)
   unfolding cs.send cs.asking
@@ -68,7 +68,7 @@ module _ (c : ClientId) (K : ℕ → Type 0) (G : List Output) (s : ServerId) (B
     f,
   )
 
-  -- What an operation asks is its own request, where that cuts a file or is for a name.
+  -- What an operation asks is its own request, if that cuts a file or is for a name.
   record OwnWant (a : Ask) (w : cp.Wanted) : Type 0 where
     pub own : w.own ≡ true
     pub means : Means a (cp.file_cut w.cut) w.body
@@ -512,7 +512,7 @@ module _ (c : ClientId) (K : ℕ → Type 0) (G : List Output) (s : ServerId) (B
     quiet = silent_more t.out _ (λ n e. cc e) w.quiet;
   }
 
-  -- a lease that may be over, where nothing was sent yet in the step
+  -- a lease that may be over, if nothing was sent yet in the step
   pub whole_after_lose : (now : Stamp) (t : Turn) → Silent t.out → WW t → WW (cl.lose now t)
   whole_after_lose now t quiet w = go (cl.lose now t) (loses now t)
     where

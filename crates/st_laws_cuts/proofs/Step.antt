@@ -61,7 +61,7 @@ module _ (c : ClientId) (K : ℕ → Type 0) (G : List Output) where
   abbrev RuleOk : (List Output → Type 0) → (Turn → Turn) → Type 0
   RuleOk Pre rule = (s : ServerId) (B : List Operation) (out0 : List Output) (t : Turn) → Pre t.out → WOf s B out0 t → WOf s B out0 (rule t) × Pre (rule t).out
 
-  -- an association with another server than that of the rule
+  -- an association with a server other than that of the rule
   elsewhere : (t : ClientTurn) (a : Association) (u : Turn) → WOf a.server t.state.operations t.out u → (b : Association) → (b.server.0 ≡ a.server.0 → ⊥) → At t.state.operations t.out b → At u.operations u.out b
   elsewhere t a u w b ne k = record { owned = owned (view b.session) k.owned; sent = λ m h z. k.sent m (was m h z) z }
     where

@@ -28,7 +28,7 @@ use Rattle.st_laws_healthy.proofs.Served.{TellsEpoch, To}
 use Rattle.st_laws_healthy.proofs.Talking.{HasSession, IsAsking, IsAsking2, IsCounting, Phase, Requested, Talks, fly}
 use Rattle.st_laws_healthy.proofs.Trips.{Back, Flying, InTime, Out, Trip, goes_out, trip_ends}
 
--- what so many trips to the server and back take
+-- what this many trips to the server and back take
 abbrev pub rounds : ℕ → ℕ → ℕ
 rounds delay zero = 0
 rounds delay (suc n) = 2 * delay + rounds delay n
@@ -55,7 +55,7 @@ module _ (c : ClientId) (s : ServerId) where
     pub of_epoch : m.header.epoch ≡ epoch
     pub says : m.body ≡ bd.DemandSeen ino g
 
-  -- where a clock is read, with the longest time that a message takes by it, and how many releases wait at most
+  -- when a clock is read, with the longest time that a message takes by it, and how many releases wait at most
   module _ (read : World → ℕ) (delay most : ℕ) where
     -- Where the answer is, to a demand that was sent at this reading.
     pub data Answering (past : List Step) (ms : List Message) (life epoch : ℕ) (o : Option ClientSession) (since ino : ℕ) (g : GrantNo) (at : ℕ) : Type 0 where

@@ -143,7 +143,7 @@ module _ (k : Config) (c : ClientId) (s : ServerId) (gap d : ℕ) (read : World 
     none_some : {A : Type 0} {y : A} → ◌≡◌ {A = Option A} None (Some y) → ⊥
     none_some f = cc
 
-    -- a request that was outstanding is so still, and was sent first when it was, where none is asked anew
+    -- a request that was outstanding still is, and was sent first when it was, if none is asked anew
     record StillAsked (q : Request) : Type 0 where
       now_asked : Request
       asked : v.requests.asked ≡ Some now_asked

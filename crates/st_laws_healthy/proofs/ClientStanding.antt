@@ -172,7 +172,7 @@ module _ (k : Config) (c : ClientId) (s : ServerId) (gap d : ℕ) (read : World 
       abbrev S2 : ClientSession → Type 0
       S2 z = HasSession k c s gap d read delay since past2 ns n.sessions life epoch t.last z
 
-      -- a session, and its lease, is young where nothing is asked
+      -- a session, and its lease, is young if nothing is asked
       abbrev Ready : ClientSession → Type 0
       Ready z = z.requests.asked ≡ None → now.0 < z.lease.date.0 + cap
 
@@ -300,7 +300,7 @@ module _ (k : Config) (c : ClientId) (s : ServerId) (gap d : ℕ) (read : World 
                 o.from begun o.trip in
                 omega (arith, v, l)
 
-        -- after the input: the session holds, and where nothing is asked its lease is young
+        -- after the input: the session holds, and if nothing is asked, its lease is young
         record Held (o : Option ClientSession) : Type 0 where
           session : ClientSession
           is : o ≡ Some session
@@ -469,7 +469,7 @@ module _ (k : Config) (c : ClientId) (s : ServerId) (gap d : ℕ) (read : World 
                         no : {q : Request} → ◌≡◌ {A = Option Request} None (Some q) → ⊥
                         no v = cc
 
-                    -- where the reply is this message it ends the request
+                    -- if the reply is this message, it ends the request
                     kept : (o : Option Request) → z.requests.asked ≡ o → Held (cr.receive_at now m.header m.body tn).here.session
                     kept None e = unasked e
                     kept (Some q) e = decide (counts_for q.body m.body) refl (same_or_not m.header.number q.number)
@@ -526,7 +526,7 @@ module _ (k : Config) (c : ClientId) (s : ServerId) (gap d : ℕ) (read : World 
           go (inl j) = absurd (none m j y l e u)
           go (inr j) = j
 
-      -- What is known after the passes, and that the outstanding request was sent first at the same reading, where no request was asked anew.
+      -- What is known after the passes, and that the outstanding request was sent first at the same reading if no request was asked anew.
       record Passed (next : ℕ) : Type 0 where
         since2 : ℕ
         phase : Phase k c s gap d read delay since2 past2 ns n.sessions life epoch t.last b.session
@@ -768,7 +768,7 @@ module _ (k : Config) (c : ClientId) (s : ServerId) (gap d : ℕ) (read : World 
               ((stamp : ℕ) → Hailed k c s gap d past ms life stamp → Hailed k c s gap d past2 ns life stamp) → Second o
           IsBegun : (u : ClientSession) → o ≡ Some u → S2 u → Ready u → u.requests.next ≡ 1 → Second o
 
-        -- a greeting's trip goes on, where its welcome wasn't delivered, or came too late
+        -- a greeting's trip goes on, if its welcome wasn't delivered, or came too late
         hailed_on : (stamp : ℕ) → ((f : ℕ) (y : Message) → numbered ms f ≡ Some y → WelcomesAt k c s gap d life stamp y →
             (x.event ≢ events.Deliver f) ⊎ (stamp + k.lease ≤ client_clock c x.after.world)) →
             Hailed k c s gap d past ms life stamp → Hailed k c s gap d past2 ns life stamp
@@ -1161,7 +1161,7 @@ module _ (k : Config) (c : ClientId) (s : ServerId) (gap d : ℕ) (read : World 
         numbers = subst (λ y. Numbers (λ m. Has m ms) c y a.life.0 (view a.session)) at (numbers a j);
       }
 
-      -- where the leases with the server last
+      -- if the leases with the server last
       module _ (ongoing : (a : Association) → Has a st.associations → a.server ≡ s → is_ended st.config now a.session ≡ false) where
         abbrev open_source : (b : Association) → Has b (cl.client_step st now i).state.associations → b.server ≡ s → Source b
         open_source b h at_b =

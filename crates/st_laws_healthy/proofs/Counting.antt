@@ -19,7 +19,7 @@ use Rattle.st_base.specs.Mode.{covers}
 use Rattle.st_laws_healthy.proofs.Queues.{Longer, More, Same, longer_then}
 use Rattle.st_laws_healthy.proofs.Replies.{counts_for, is_mild}
 
--- a renewed lease is dated no earlier than the stamp, where it is not condemned, and no earlier than before
+-- a renewed lease is dated no earlier than the stamp, if it is not condemned, and no earlier than before
 pub renewed_date : (stamp : Stamp) (l : lease.ClientLease) → l.condemned ≡ false →
     (stamp.0 ≤ (lease.renewed stamp l).date.0) × (l.date.0 ≤ (lease.renewed stamp l).date.0) × ((lease.renewed stamp l).condemned ≡ false)
 unfolding lease.renewed lease.dated

@@ -9,7 +9,7 @@ use Words.ClientState.{ClientSession, Turn, asking, is_serving, send, with_opera
 use Words.Tables.{cond_either}
 use Words.Truth.{not_both}
 
--- where the lease isn't condemned, and nothing must be reasserted
+-- if the lease isn't condemned, and nothing must be reasserted
 abbrev pub NoneWaits : Option ClientSession → Type 0
 NoneWaits None = Unit {0}
 NoneWaits (Some v) = v.lease.condemned ≡ false → v.due ≡ false → v.requests.asked ≡ None → v.releases ≡ []

@@ -540,7 +540,7 @@ module _ (past : List Step) (t : Traced) (d : Dated past t) (c : ClientId) (s : 
       number_is : {k : ℕ} → events.Deliver n ≡ events.Deliver k → n ≡ k
       number_is q = cc
 
-      -- a message to another node than that of this number
+      -- a message to a node other than that of this number
       elsewhere : (x : SentMessage) (to : ℕ) (node : NodeId) → world.message_of t.world n ≡ Some x → world.receiver_of x ≡ node →
           (world.node_at to ≡ node → ⊥) → Deaf t.world e to
       elsewhere x to node q r ne k y f g h =

@@ -66,7 +66,7 @@ still_off (Some y) a b l e = go (nat_lt b.0 (y.start.0 + y.wait)) refl
     go false q = refl
     go true q = let z = ltb-true b.0 (y.start.0 + y.wait) q in let w = ltb-false a.0 (y.start.0 + y.wait) e in absurd (omega (arith, z, w, l))
 
--- associations with one server are one
+-- associations with one server are the same
 once_same : (al : List Association) → Once (map server_number al) → (a b : Association) → Has a al → Has b al → a.server.0 ≡ b.server.0 → a ≡ b
 once_same [] o a b h i e = absurd h
 once_same (x ∷ xs) o a b (inl p) (inl q) e = p ∙ sym q
@@ -346,7 +346,7 @@ module _ (k : Config) (count : ℕ) (c : ClientId) (s : ServerId) (gap d : ℕ) 
       module _ (node : ServerNode) (talks : (a : Association) → Has a st.associations → a.server ≡ s →
           (since : ℕ) × Talks k c s gap d read delay since past (messages t.world) node.state now.0 a) (b : Association)
           (j : Has b (cl.client_step st now i).state.associations) (at_b : b.server ≡ s) where
-        -- where the leases with the server last
+        -- if the leases with the server last
         pub client_talks2 : ((a : Association) → Has a st.associations → a.server ≡ s → is_ended st.config now a.session ≡ false) →
             TalksOn k c s gap d read delay past past2 (messages t.world) M2 node.state now st i fit talks b
         client_talks2 ongoing =
@@ -363,7 +363,7 @@ module _ (k : Config) (count : ℕ) (c : ClientId) (s : ServerId) (gap d : ℕ) 
             (subst (Begun (client_clock c) c s d past) (sym is_now) o.begun) (read sc.world) refl st i new_one fit config brings deaf_server node.state told
             talks young_now numbers_now numbers_then one_each b j at_b
 
-      -- where the bound is at most the age at which leases are over, none is over
+      -- if the bound is at most the age at which leases are over, none is over
       pub open_leases : longest k gap d ≤ k.lease → AllTalk past t.world → (node : ServerNode) → node_of t.world s ≡ Some node →
           (a : Association) → Has a st.associations → a.server ≡ s → is_ended st.config now a.session ≡ false
       open_leases fits talks node is a j at_a = subst (λ kb. is_ended kb now a.session ≡ false) (sym config) (by a.session refl)

@@ -1,4 +1,4 @@
--- What is observed of a client in an event: its answers and its losses are those of its step, where it takes one.
+-- What is observed of a client in an event: its answers and its losses are those of its step, if it takes one.
 use Rattle.st_lemmas.proofs.Words
 use Words.{◌≡◌, ◌≢◌, ℕ, ◌+◌, ◌⊎◌, Bool, true, false, List, [], ◌∷◌, ◌++◌, Option, Some, None, Ok, Err, refl, sym, ap, ◌∙◌, subst, inl, inr, if◌then◌else◌}
 use Words.{unwrap_or, ClientId, ServerId, NodeId, Ask, Event, Message, Note, Output, Stamp, ClientInput, ServerInput, Fate, LogEntry, Observation}

@@ -1,5 +1,5 @@
--- Healthy clients aren't suspected, over whole runs: where the answer to each demand is holds after every event, and it comes in time, so no tick of the server
--- finds a demand unanswered for the demand time.
+-- Healthy clients aren't suspected, over whole runs: the invariant that says where the answer to each demand is holds after every event, and the answer comes
+-- in time; so no tick of the server finds a demand unanswered for the demand time.
 use Rattle.st_lemmas.proofs.Words
 use Words.{◌≡◌, ℕ, ◌+◌, ◌*◌, ◌≤◌, ◌<◌, ◌⊎◌, Bool, true, false, ◌==◌, List, [], ◌∷◌, ◌++◌, Option, Some, None, Ok, refl, sym, ap, ◌∙◌, subst, inl, inr, arith, is_some}
 use Words.{length, suc, unwrap_or, zero, eqb-true, Config, ClientId, GrantNo, ServerId, Stamp, Mode, Event, Message, HeldLock, LockRow, ClientInput}
@@ -62,7 +62,7 @@ pub server_read : (s : ServerId) (v w : World) → v.clocks ≡ w.clocks → len
 server_read s v w e f =
     ap (λ n. (unwrap_or (numbered v.clocks (n + s.0)) (stamp 0)).0) f ∙ ap (λ ts. (unwrap_or (numbered ts (length w.clients + s.0)) (stamp 0)).0) e
 
--- so many trips, and one before them
+-- this many trips, and one before them
 trips_are : (delay n : ℕ) → 2 * delay * (n + 1) ≡ 2 * delay + rounds delay n
 trips_are delay zero = omega arith
 trips_are delay (suc n) = let z = trips_are delay n in omega (arith, z)

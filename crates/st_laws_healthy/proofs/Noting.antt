@@ -395,7 +395,7 @@ module _ (s : ServerId) (Serves : Type 0) (asked : ℕ → Option Ask) (k : Conf
       (each_lasts Reduced (λ xs v. C v) (λ x xs v y step z. reduced x v y step z) (cp.files_demanded r.operated.here.session) r.operated r.reduced
       r.reductions z.calm)))
 
-  -- A rule at each server in turn, where each association is as it must be.
+  -- A rule at each server in turn, if each association is as it must be.
   abbrev CT : ClientTurn → Type 0
   CT t = Calm t.state.config t.out t.state.operations
 

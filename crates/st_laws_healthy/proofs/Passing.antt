@@ -1,5 +1,5 @@
--- What a client's passes at a server do to its session there, and what they send: a greeting, where there is no session; the outstanding request once more;
--- or a new one, where none is outstanding.
+-- What a client's passes at a server do to its session there, and what they send: a greeting, if there is no session; the outstanding request once more;
+-- or a new one, if none is outstanding.
 use Rattle.st_lemmas.proofs.Words
 use Words.{◌≡◌, ℕ, ◌+◌, ◌⊎◌, Bool, true, false, List, [], ◌∷◌, ◌++◌, Option, Some, None, refl, sym, ap, ◌∙◌, subst, inl, inr, is_some, PageNo, Stamp, Ask, Body}
 use Words.{Message, Output, Operation, Release, Request}
@@ -246,7 +246,7 @@ module _ (now : Stamp) (t g : Turn) (idle : IsIdle t g) where
         sends = λ m h. inl (idle.quiet m h);
       })
 
-  -- the session of the turn, where there was one
+  -- the session of the turn, if there was one
   module _ (s : ClientSession) (there : g.here.session ≡ Some s) where
     -- a session whose requests are these, after one that is alike
     behind : (z : ClientSession) → z.epoch ≡ s.epoch → z.lease ≡ s.lease → z.due ≡ s.due →

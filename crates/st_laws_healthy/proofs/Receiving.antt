@@ -1,4 +1,4 @@
--- What a message of the server does to a session that is not condemned and not due: it ends the outstanding request, where it counts for it, or it leaves
+-- What a message of the server does to a session that is not condemned and not due: it ends the outstanding request, if it counts for it, or it leaves
 -- the epoch, the requests and the lease.
 use Rattle.st_lemmas.proofs.Words
 use Words.{◌≡◌, ℕ, ◌≤◌, Bool, true, false, ◌==◌, refl, sym, ap, ◌∙◌, subst, arith, if◌then◌else◌, not, nat_lt, Option, Some, None, eqb-true, ltb-true, GrantNo}
@@ -96,7 +96,7 @@ module _ (t : Turn) (s : ClientSession) (now : Stamp) (h : Header) (there : t.he
   still : (b : Body) → G b t
   still b = Kept (subst (Follows s) (sym there) (follows_self s))
 
-  -- where what fits counts
+  -- if what fits counts
   replied : (b : Body) → ((asked : Body) → fits b asked ≡ true → counts_for asked b ≡ true) → G b (cr.reply_of t s now h b)
   unfolding cr.reply_of cr.counted cr.by_request
   replied b counts = go s.requests.asked refl

@@ -204,7 +204,7 @@ module _ (c : ClientId) (s : ServerId) where
       its_life : (r : Message) → Answers now h u m.body r → (r.header.life ≡ h.life) × (r.header.to ≡ h.from)
       its_life r a = (ap (λ (x : Message). x.header.life) a.is, ap (λ (x : Message). x.header.to) a.is)
 
-      -- A message of another client, or of an earlier life, leaves the session where it lives.
+      -- A message of another client, or of an earlier life, leaves the session as it is, if it lives.
       module _ (other : (h.from ≢ c.0) ⊎ (h.life < life)) where
         not_its : h.from ≡ c.0 → h.life < life
         not_its e = go other
@@ -406,7 +406,7 @@ module _ (c : ClientId) (s : ServerId) where
             refl,
           )
 
-        -- A request that sessions serve, where the session lives.
+        -- A request that sessions serve, if the session lives.
         module _ (pos : 1 ≤ h.number) (serves : is_served m.body ≡ true) (k : IsServed ms n.sessions life epoch last)
             (one : (a b : Message) (number : ℕ) → 1 ≤ number → IsRequest (Comes ms) c life epoch number a → IsRequest (Comes ms) c life epoch number b →
             a.body ≡ b.body) where
@@ -416,7 +416,7 @@ module _ (c : ClientId) (s : ServerId) where
           epoch_u : u.state.sessions.epoch.0 ≡ epoch
           epoch_u = ap (λ (x : Epoch). x.0) (z.epoch ∙ sepoch)
 
-          -- the message is a request of this epoch, where it is taken
+          -- the message is a request of this epoch, if it is taken
           request : (t : Taken Body) → sv.take u h ≡ t → (t ≡ takes.OtherEpoch → ⊥) → IsRequest (Comes ms) c life epoch h.number m
           request t q ne = record {
             among = record { among = among; to = to };

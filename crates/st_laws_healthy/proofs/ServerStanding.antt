@@ -110,7 +110,7 @@ module _ (k : Config) (c : ClientId) (s : ServerId) (gap d : ℕ) (read : World 
       abbrev G : Type 0
       G = Goes c s ms ns n.sessions n2.sessions life epoch t.last i (server_step n at i).out
 
-      -- two requests under one number are one
+      -- two requests under one number are the same
       one : (y z : Message) (number : ℕ) → 1 ≤ number → IsRequest (Comes c s ms) c life epoch number y → IsRequest (Comes c s ms) c life epoch number z →
           y.body ≡ z.body
       one y z number l p q =

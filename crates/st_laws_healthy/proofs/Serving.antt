@@ -70,7 +70,7 @@ module _ (now : Stamp) (h : Header) where
     OfSuspect : (start : Stamp) → authority.started t.state.authority (sv.sender h) ≡ Some start → Ground t b w
     OfGreeting : b ≡ bd.Hello → Ground t b w
 
-  -- the sender's session, where it lives, belongs to a lower life
+  -- the sender's session, if it lives, belongs to a lower life
   abbrev pub Later : ServerTurn → Type 0
   Later t = (y : Session) → sessions.session_of t.state.sessions (sv.sender h) ≡ Some y → sessions.is_live y ≡ true → y.life.0 < h.life
 
@@ -209,7 +209,7 @@ module _ (now : Stamp) (h : Header) where
   does_reassert_by t rs (Err (refusals.Conflict ino holder)) l e = Refuses why.Conflict ino holder.0 (OfLocks rs refl) refl (Alone refl)
   does_reassert_by t rs (Err (refusals.NotHolder ino g)) l e = Refuses why.NotHolder ino g.0 (OfLocks rs refl) refl (Alone refl)
 
-  -- a session that is not known belongs to a lower life, where it lives
+  -- a session that is not known belongs to a lower life, if it lives
   unknown_later : (t : ServerTurn) → sessions.knows t.state.sessions (sv.sender h) (sv.life_in h) ≡ false → Later t
   unknown_later t e y q live =
       above

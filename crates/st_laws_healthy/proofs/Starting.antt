@@ -1,4 +1,4 @@
--- From a start of a client on, where its server is out of grace: the client is in a life in which nothing was said, so it keeps its lease as from the start of
+-- From a start of a client on, if its server is out of grace: the client is in a life in which nothing was said, so it keeps its lease as from the start of
 -- a run on.
 use Rattle.st_lemmas.proofs.Words
 use Words.{◌≡◌, ℕ, ◌+◌, ◌≤◌, ◌<◌, ◌⊎◌, true, false, List, [], ◌∷◌, ◌++◌, Option, Some, None, Ok, Err, refl, sym, ap, ◌∙◌, subst, inl, inr, arith}

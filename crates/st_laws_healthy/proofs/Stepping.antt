@@ -145,7 +145,7 @@ module _ (s : ClientState) (now : Stamp) (i : ClientInput) (fit : (a : Associati
   same_pairs : IsNoMessage i → (t : ClientTurn) → Pairs t t
   same_pairs n t = pairs_same (TakesIn s.config now i) (λ a. IsLeft n refl refl refl (alike_self a.session)) t.state.associations
 
-  -- the input is heard, where it is a message to this client
+  -- the input is heard, if it is a message to this client
   abbrev pub Told : ClientInput → Type 0
   Told (inputs.Control m) = m.header.to ≡ s.id.0
   Told i = Unit {0}

@@ -101,7 +101,7 @@ module _ (k : Config) (c : ClientId) (s : ServerId) (gap d : ℕ) where
     Phase past ms v life epoch last None = Greeted past ms life × (last ≡ 0)
     Phase past ms v life epoch last (Some z) = HasSession past ms v life epoch last z
 
-    -- What is known of an association, where the client's clock shows this.
+    -- What is known of an association if the client's clock shows this.
     pub record Talks (past : List Step) (ms : List Message) (n : ServerState) (now : ℕ) (a : Association) : Type 0 where
       pub last : ℕ
       pub known : IsKnown c s ms n.sessions a.life.0 n.stable.epoch.0 last
@@ -144,7 +144,7 @@ module _ (k : Config) (c : ClientId) (s : ServerId) (gap d : ℕ) where
         f.message.header.to ≡ to → Deaf w x.event to → Flying read c s delay (past ++ x ∷ []) ns Q at
     fly read delay P Q at to f g t deaf = flies_on read c s delay past x ms ns keeps P Q at f g (not_delivered to deaf f.number f.message f.there t)
 
-    -- a trip goes on where neither end hears
+    -- a trip goes on if neither end hears
     pub travels : (read : World → ℕ) (delay : ℕ) (A B : Message → Type 0) (from : ℕ) → ((m : Message) → A m → To c s m) → ((m : Message) → B m → From c s m) →
         Deaf w x.event (server_node s) → Deaf w x.event c.0 → Trip read c s delay past ms A B from → Trip read c s delay (past ++ x ∷ []) ns A B from
     travels read delay A B from to back deaf_server deaf (Out y) =

@@ -223,7 +223,7 @@ request_served t now h (bodies.Cut ino g p) e = refl
 request_served t now h (bodies.Name op) e = refl
 request_served t now h b e = cc
 
--- A request of the present epoch, of a client that isn't a suspect, is answered in the step that receives it, where it is its session's next one, or the last
+-- A request of the present epoch, of a client that isn't a suspect, is answered in the step that receives it, if it is its session's next one, or the last
 -- one, whose kept reply counts for it.
 pub step_answers : (n : ServerState) (now : Stamp) (m : Message) → sv.is_for (thefts (turn n []) now).state m.header ≡ true →
     authority.started (thefts (turn n []) now).state.authority (sv.sender m.header) ≡ None →

@@ -81,7 +81,7 @@ InHealthyRuns promise =
 abbrev pub IsOutOfGrace : ServerId → World → Type 0
 IsOutOfGrace s w = (node : ServerNode) → node_of w s ≡ Some node → is_on node.state.grace (clock_of w (nodes.Server s)) ≡ false
 
--- What holds in every run from a start of a client on, where the server is out of grace then, and the client is healthy at it after each step from the start
+-- What holds in every run from a start of a client on, if the server is out of grace then, and the client is healthy at it after each step from the start
 -- on. Messages that were sent before the start may come at any time, or never.
 abbrev pub InRunsFromStarts : (Config → ClientId → ServerId → ℕ → ℕ → Promise) → Type 0
 InRunsFromStarts promise =

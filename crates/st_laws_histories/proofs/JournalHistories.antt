@@ -39,7 +39,7 @@ use Rattle.st_laws_histories.specs.JournalHistories.{
 abbrev Goes : Stable → List Change → Type 0
 Goes start xs = (t : Stable) × (after_changes (Some start) xs ≡ Some t)
 
--- where the bytes of an append are not synced
+-- if the bytes of an append are not synced
 abbrev IsLoose : Option Change → Option Change → List ℕ → List Change → Type 0
 IsLoose None begun bytes counted = HasPrefix counted begun bytes
 IsLoose (Some x) begun bytes counted = (begun ≡ Some x) × (IsJournal bytes counted × ((fits x ≡ true) × (length (all_opened counted) + 1 + length (record_of x) ≤ length bytes)))
@@ -60,7 +60,7 @@ first_stays start size some = record { goes = (start, refl); under_way = tt; has
 one_more : (start state next : Stable) (xs : List Change) (x : Change) → after_changes (Some start) xs ≡ Some state → apply state x ≡ Ok next → Goes start (xs ++ x ∷ [])
 one_more start state next xs x leads applied = (next, after_append (Some start) xs (x ∷ []) ∙ ap (λ (o : Option Stable). after_changes o (x ∷ [])) leads ∙ ap kept applied)
 
--- where no append failed and none is under way, the synced bytes are the journal
+-- if no append failed and none is under way, the synced bytes are the journal
 at_rest : (loose begun : Option Change) (bytes : List ℕ) (counted : List Change) → begun ≡ None → IsLoose loose begun bytes counted → IsJournal bytes counted
 at_rest None None bytes counted whole h = h
 at_rest None (Some x) bytes counted whole h = absurd (cc)

@@ -44,7 +44,7 @@ place_of w (events.Lose k) = 0
 abbrev pub moves : Running → MoveEvent → Running
 moves r e = if is_down r.down (place_of r.history.world e) then r else record r { history = noted r.history e (happens r.history.world e) }
 
--- A crash takes the locks: each container of so many is unlocked. Records and messages stay.
+-- A crash takes the locks: each of this many containers is unlocked. Records and messages stay.
 abbrev pub unlocks : ServerId → ℕ → List MoveEvent
 unlocks s zero = []
 unlocks s (suc c) = unlocks s c ++ events.Unlock s (c + 1) ∷ []

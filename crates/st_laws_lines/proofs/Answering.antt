@@ -1,5 +1,5 @@
--- Where a client answers `diskfault`, `opsfull` and what a server refused: only at the end of a command that failed, only where 16 operations are
--- pending, and only where a refusal comes.
+-- When a client answers `diskfault`, `opsfull` and what a server refused: only at the end of a command that failed, only when 16 operations are
+-- pending, and only when a refusal comes.
 use Rattle.st_lemmas.proofs.Words
 use Words.{◌≡◌, ℕ, ◌+◌, ◌⊎◌, Bool, true, false, ◌≤◌, List, [], ◌∷◌, ◌++◌, Option, None, refl, sym, subst, arith, inl, inr, if◌then◌else◌, filter, length, map}
 use Words.{le-leb, leb-true, Tag, Stamp, AppAnswer, Ask, Body, Header, Output, ClientInput, Operation, PageCommand, length-append}
@@ -31,7 +31,7 @@ use Rattle.st_trace.proofs.Client.Operating.{operations}
 use Rattle.st_trace.proofs.Client.Requesting.{requests}
 use Rattle.st_trace.proofs.Client.Walk.{each_lasts}
 
--- an output that answers no fault, but of a command that failed, or of a client with so many operations
+-- an output that answers no fault, but of a command that failed, or of a client with this many operations
 abbrev pub Fault_free : (ℕ → Type 0) → Type 0 → Type 0 → AppAnswer → Type 0
 Fault_free Failed Full Told (answers.DiskFault number) = Failed number
 Fault_free Failed Full Told answers.OpsFull = Full
@@ -161,7 +161,7 @@ module _ (Failed : ℕ → Type 0) (Full : Type 0) (Told : Type 0) where
       go _ (ends.WaitsForSync f q l) = w
       go _ (ends.Waits n) = w
 
-  -- Ends of commands: only where the command failed a fault is answered.
+  -- Ends of commands: a fault is answered only if the command failed.
   finished : (number : ℕ) (r : Option (Option (Tag × List ℕ))) → (r ≡ None → Failed number) → (t : Turn) → F t → F (cl.finish number r t)
   finished number r f t w = go (cl.finish number r t) (finishes number r t)
     where

@@ -199,7 +199,7 @@ unfolding ev.server_says_all
 server_all w s [] sc h = h
 server_all w s (o ∷ os) sc h = server_all w s os (ev.server_says sc s o) (server_one w s o sc h)
 
--- Flush steps count_lines nothing.
+-- Flush steps count nothing.
 alike_then : (u v w : World) → Alike u v → Alike v w → Alike u w
 alike_then u v w a b = record { messages = b.messages ∙ a.messages; commands = b.commands ∙ a.commands; whats = b.whats ∙ a.whats; tally = b.tally ∙ a.tally }
 
@@ -260,7 +260,7 @@ at_server w s input (Some node) = go (server.node_step node (clock_of w (nodes.S
     go (Err e) = alike_tells w w (self w)
     go (Ok t) = server_all w s t.out (ev.quiet (ev.with_node s t.node w)) (alike_tells w _ (record { messages = refl; commands = refl; whats = refl; tally = refl }))
 
--- Lines of fates count_lines nothing here.
+-- Lines of fates count nothing here.
 silent_then : (o : Observation) (os : List Observation) → Silent (o ∷ []) → Silent os → Silent (o ∷ os)
 silent_then o os a b =
     record {

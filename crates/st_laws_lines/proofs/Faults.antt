@@ -31,7 +31,7 @@ use Rattle.st_lemmas.proofs.Steps.{step_happens, throughout_all}
 use Rattle.st_laws_pages.specs.Asks.Law.{InEveryRun}
 use Rattle.st_laws_lines.proofs.Answering.{All_free, Fails_as, Free, Fault_free, stepped}
 
--- a line of no fault, but of a command of this client that failed, or of this client where it was full
+-- a line reports a fault only if a command of its client failed, its client was full, or its client was told so
 abbrev Fine : (ClientId → ℕ → Type 0) → (ClientId → Type 0) → (ClientId → Type 0) → Observation → Type 0
 Fine Failed Full Told (seen.Answered c op (answers.DiskFault number)) = Failed c number
 Fine Failed Full Told (seen.Answered c op answers.OpsFull) = Full c

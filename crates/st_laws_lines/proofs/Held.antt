@@ -1,4 +1,4 @@
--- Disks hold what is hard, where the pages hold.
+-- Disks hold what is hard if the pages hold.
 use Rattle.st_lemmas.proofs.Words
 use Words.{◌≡◌, ℕ, List, [], ◌∷◌, ◌++◌, Option, Some, None, refl, ◌∙◌, FileId, PageNo, Extent, LogEntry}
 use Words.ClientPages.{found_under}
@@ -11,7 +11,7 @@ use Rattle.st_laws_pages.specs.Disks.Pages.{standing}
 use Rattle.st_laws_pages.specs.Disks.Runs.{PagesAfter}
 use Rattle.st_laws_pages.specs.Disks.World.{PagesHold, block_in, mapped_at}
 
--- the two folds over the hard entries are one
+-- the two folds over the hard entries are the same
 same_fold : (page : List ℕ) (f : FileId) (p : PageNo) (es : List LogEntry) → folds.hard_from page f p es ≡ hard_from page f p es
 unfolding hard_from
 same_fold page f p [] = refl

@@ -1,4 +1,4 @@
--- What the lines of fates and entries count_lines of the log.
+-- What the lines of fates and entries count in the log.
 use Rattle.st_lemmas.proofs.Words
 use Words.{◌≡◌, ℕ, ◌+◌, Bool, true, false, ◌&&◌, List, [], ◌∷◌, ◌++◌, Option, Some, None, refl, sym, ap, ◌∙◌, arith, if◌then◌else◌, length-append, length}
 use Words.{filter, not, set, slice_get, suc, zero, Fate, LogEntry, Observation}
@@ -12,7 +12,7 @@ use Words.Tables.{and_true}
 use Rattle.std.proofs.lemmas.List.Elements.{filter-append}
 use Rattle.st_promises.specs.Counts.{count_lines, is_change_line, is_drop_line, is_hard_line}
 
--- 1 where a test passes
+-- 1 if a test passes
 abbrev pub one : Bool → ℕ
 one true = 1
 one false = 0
@@ -22,7 +22,7 @@ abbrev pub Open_changes : List LogEntry → Type 0
 Open_changes [] = Unit {0}
 Open_changes (e ∷ es) = record { first : log.is_pending e.fate ≡ true → is_change e ≡ true; rest : Open_changes es }
 
--- What lines count_lines of two logs.
+-- What lines count in two logs.
 pub record Counts (es : List LogEntry) (os : List Observation) (fs : List LogEntry) : Type 0 where
   pub writes : length (filter is_change fs) ≡ length (filter is_change es) + count_lines is_change_line os
   pub hard : length (filter is_hard fs) ≡ length (filter is_hard es) + count_lines is_hard_line os

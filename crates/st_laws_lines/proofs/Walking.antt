@@ -1,5 +1,5 @@
 -- What a client makes of a message, and its passes that neither serve operations nor send requests, walked for facts of what it says and of the operations that
--- it leaves: such a fact holds again, where it does so after a message, a command or a note, after operations that are answered, and where operations are
+-- it leaves: such a fact holds again, if it does so after a message, a command or a note, after operations that are answered, and when operations are
 -- stuck.
 use Rattle.st_lemmas.proofs.Words
 use Words.{◌≡◌, ℕ, Bool, true, List, [], ◌∷◌, ◌++◌, Option, refl, PageNo, ServerId, Stamp, AppAnswer, Body, Header, NameReply, Why, Output, LostPage, Operation}
@@ -20,7 +20,7 @@ use Rattle.st_trace.proofs.Client.Receiving.{receives}
 use Rattle.st_trace.proofs.Client.Requesting.{greets}
 use Rattle.st_trace.proofs.Client.Walk.{each_lasts, reductions, writes}
 
--- an answer that a reply may give: of no fault, of no lost pages, and not that there are too many operations; and a server's refusal only where one came
+-- an answer that a reply may give: of no fault, of no lost pages, and not that there are too many operations; and a server's refusal only if one came
 abbrev pub Mild : Type 0 → AppAnswer → Type 0
 Mild Told (answers.DiskFault number) = ⊥
 Mild Told answers.OpsFull = ⊥

@@ -1,4 +1,4 @@
--- Asks can be given to events, where each event has an ask that is its own.
+-- Asks can be given to events, if each event has an ask that is its own.
 use Rattle.st_lemmas.proofs.Words
 use Words.{◌≡◌, ◌⊎◌, ℕ, Bool, true, false, not, ◌==◌, List, [], ◌∷◌, ◌++◌, refl, sym, ap, subst, inl, inr, if◌then◌else◌, eqb-true, list_any, ClientId, Ask}
 use Words.Safety.{Step}
@@ -81,7 +81,7 @@ module _ (did : Step → Bool) (fits : List Step → Step → ClientId → ℕ �
           let z = is d q in
           absurd (k.new e.at e.among e.did_ (subst (λ n. Owns e.at k.c n) z.1 (subst (λ (c : ClientId). Owns e.at c d.1) z.0 e.owns)))
 
-  -- All can be given, where what is said at the end holds of whatever was given so.
+  -- All can be given, if what is said at the end holds of whatever was given so.
   pub all_given : (ys past : List Step) (given : List (ClientId × ℕ)) → ((given : List (ClientId × ℕ)) → Giving (past ++ ys) given → last given ≡ true) → AllChosen past ys → Giving past given → are_given did fits last cs past ys given ≡ true
   unfolding are_given
   all_given [] past given f a g = f given (subst (λ xs. Giving xs given) (sym (append_none past)) g)

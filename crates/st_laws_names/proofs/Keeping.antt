@@ -61,7 +61,7 @@ module _ (S : ℕ → Type 0) (Key : ServerId → ℕ → ℕ → ℕ → ℕ �
   Under s life None op = ⊥
   Under s life (Some v) op = AtRequest s life v.0 v.1 op
 
-  -- an operation that asked is not unsent, and is stuck where it was refused
+  -- an operation that asked is not unsent, and is stuck if it was refused
   abbrev pub AtStage : Stage → ℕ → Type 0
   AtStage stages.Unsent op = ⊥
   AtStage stages.Sent op = Unit {0}

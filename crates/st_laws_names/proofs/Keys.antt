@@ -44,7 +44,7 @@ use Rattle.st_laws_names.specs.OutstandingKeys.{SameKey, WaitsUnder}
 use Rattle.st_laws_names.proofs.World.{Asked, Worlds, none_waits, waits_at}
 use Rattle.st_laws_steps.proofs.Client.Noting.{pair_has}
 
--- Of operations that waited under one key all are one.
+-- All operations that waited under one key are the same.
 abbrev pub OneOperations : List Step → World → Type 0
 OneOperations past w = (c : ClientId) (op n : ℕ) (a : Asked past w c op) (b : Asked past w c n) → SameKey a.server b.server a.life_ a.epoch_ a.number_ b.life_ b.epoch_ b.number_ → op ≡ n
 
@@ -86,7 +86,7 @@ pub record KeysHold (past : List Step) (w : World) : Type 0 where
   pub one : OneOperations past w
   pub requested : (c : ClientId) (op : ℕ) (k : Asked past w c op) → IsRequested past w c op k.server k.life_ k.epoch_ k.number_
 
--- Messages of one key have one body, where the client has an association with the server.
+-- Messages of one key have one body if the client has an association with the server.
 pub one_body : (k : Config) (count : ℕ) (past : List Step) (t : Traced) → AllHold k count past t → (c : ClientId) (s : ServerId) → Place t.world c s → (life epoch number : ℕ) → 1 ≤ number → (m p : Message) → Has m (messages t.world) → Has p (messages t.world) →
     Keyed c s life epoch number m → Keyed c s life epoch number p → m.body ≡ p.body
 one_body k count past t h c s z life epoch number pos m p i j a b =
@@ -366,7 +366,7 @@ module _ (k : Config) (count : ℕ) (past : List Step) (t : Traced) (e : Event) 
         go (inr (inl z)) = inr z
         go (inr (inr q)) = empty w.site.node.state.operations q w.operation w.there
 
-    -- where it took a step
+    -- when it took a step
     module _ (z : Took c w.site) where
       good : AssociationOk past2 (messages sc.world) c w.site.node.state.operations w.association
       good = (n.base.cuts.clients c w.site w.at).all z.run w.association w.among

@@ -1,4 +1,4 @@
--- A named inode changed names: where names say an inode to a create, mkdir, remove or rename, they are other ones then.
+-- A named inode changed names: if names answer a create, mkdir, remove or rename with an inode, they have changed then.
 use Rattle.st_lemmas.proofs.Words
 use Words.{◌≡◌, ℕ, ◌+◌, ◌≤◌, ◌<◌, suc, arith, Bool, true, false, not, ◌&&◌, ◌==◌, List, [], ◌∷◌, Option, Some, None, refl, sym, ap, ◌∙◌, subst, inl, inr}
 use Words.{if◌then◌else◌, cond, filter, is_some, length, map, bytes_eq, nat_lt, Result as Res, Ok, Err, eqb-true, GrantNo, NameAsk, ServerId, EntryRefusal}
@@ -52,7 +52,7 @@ filter_fewer p [] x i q = absurd i
 
 -- What changes names.
 
--- the next inode number is another one
+-- the next inode number has changed
 added_other : (n : Names) (dir : ℕ) (x : List ℕ) (b : Bool) → same_names n (names.added n dir x b).names ≡ false
 unfolding names.added
 added_other n dir x b = and_right (same_entries n.entries _) _ (false_from_ne_true (n.next == n.next + 1) (λ e. let q = eqb-true n.next (n.next + 1) e in absurd (omega (arith, q))))

@@ -103,7 +103,7 @@ record SaidAt (y : Step) (s : ServerId) (ask : NameAsk) (reply : NameReply) : Ty
   pub none : MeansNone ask g
   pub did : does old.state.stable.names (name_op ask g) ≡ said new.state.stable.names (name_answer reply)
 
--- where a request of an ask was served with a reply of names
+-- if a request of an ask was served with a reply of names
 said_of : (y : Step) (c : ClientId) (s : ServerId) (life epoch number : ℕ) (r : Body) (z : ServedAt y c s life epoch number r) (ask : NameAsk) → AsksFor (asks.Name s ask) z.sent.message.body → (reply : NameReply) → r ≡ bodies.Named reply → SaidAt y s ask reply
 said_of y c s life epoch number r z ask a reply e = go z.sent.message.body a z.serves.did
   where
@@ -161,7 +161,7 @@ told_change y s ask reply ino f e z = subst (λ o. changes_at o (node_of y.after
 
 -- Keys.
 
--- where an operation waited under a key, in words of the same key
+-- if an operation waited under a key, in words of the same key
 pub waits_as : (w : World) (c : ClientId) (op : ℕ) (s u : ServerId) (life epoch number life2 epoch2 number2 : ℕ) → SameKey s u life epoch number life2 epoch2 number2 → WaitsUnder w c s life epoch number op → WaitsUnder w c u life2 epoch2 number2 op
 waits_as w c op s u life epoch number life2 epoch2 number2 k z =
     subst (λ n. WaitsUnder w c u life2 epoch2 n op) k.number_ (subst (λ e. WaitsUnder w c u life2 e number op) k.epoch_ (subst (λ l. WaitsUnder w c u l epoch number op) k.life_ (subst (λ v. WaitsUnder w c v life epoch number op) k.server z)))

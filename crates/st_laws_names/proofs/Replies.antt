@@ -88,7 +88,7 @@ names_said : (n m : Names) (now : Stamp) (t : server.ServerTurn) (h : Header) (o
 unfolding server.rule
 names_said n m now t h op at became = go (name_replies t now h op).body (name_replies t now h op).is
   where
-    -- the reply is what names say, where it is theirs
+    -- the reply is what names say if it is theirs
     said_by : (b : Body) → (server.name t h op).reply ≡ Some b →
         IsSaid is_final final_kind (record { 0 = 0 }) t.state.stable.epoch serving.Tick n (λ c life number b. Unit {0}) t.state now
         (does t.state.stable.names op) (server.name t h op).turn.state.stable.names b

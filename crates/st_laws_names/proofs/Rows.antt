@@ -128,7 +128,7 @@ module _ (k : Config) (count : ℕ) (past : List Step) (t : Traced) (e : Event) 
         unsettled = any_last_none (settles_in c z.op) past x z.unsettled (unsettled_in c z.op sc.seen (λ a i. absurd (y.1 a i)));
       }
 
-  -- an operation that was pending is left, where it is no longer pending, and answered only with `uncertain`
+  -- an operation that was pending is left, if it is no longer pending, and answered only with `uncertain`
   now_left : (c : ClientId) (site : WorldClient) → site_of t.world c ≡ Some site → (s : ServerId) (qs : List Operation) (m : Message) →
       (z : Pending past (gifts k count t.world h.base.all c s) t.world c s site.node.state.operations m) →
       ((o : Operation) → Has o qs → o.op ≡ z.operation.op → ⊥) → ((a : AppAnswer) → Has (seen.Answered c z.operation.op a) sc.seen → is_uncertain a ≡ true) →

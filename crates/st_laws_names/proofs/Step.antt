@@ -43,7 +43,7 @@ module _ (c : ClientId) (S : ℕ → Type 0) (Key : ServerId → ℕ → ℕ →
   abbrev RuleOk : (Turn → Turn) → Type 0
   RuleOk rule = (s : ServerId) (B : List Operation) (t : Turn) → WOf s B t → WOf s B (rule t)
 
-  -- an association with another server than that of the rule
+  -- an association with a server other than that of the rule
   elsewhere : (t : ClientTurn) (a : Association) (u : Turn) → WOf a.server t.state.operations u → (b : Association) → (b.server.0 ≡ a.server.0 → ⊥) →
       At t.state.operations b → At u.operations b
   elsewhere t a u w b ne k = record { state = λ o h z e. k.state o (was o h e) z e; asked = λ o h z e. k.asked o (was o h (asked_of b.server o e).0) z e }

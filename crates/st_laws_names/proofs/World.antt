@@ -126,7 +126,7 @@ pub record OnceHold (past : List Step) (w : World) : Type 0 where
 
 -- At one moment.
 
--- two operations of one number, where that is pending once at most, are one
+-- two operations of one number are the same, if that is pending once at most
 one_pending : (os : List Operation) (o p : Operation) → Has o os → Has p os → o.op ≡ p.op → pending o.op os ≤ 1 → o ≡ p
 one_pending (x ∷ os) o p (inl e) (inl f) q l = e ∙ sym f
 one_pending (x ∷ os) o p (inl e) (inr h) q l =
@@ -140,7 +140,7 @@ one_pending (x ∷ os) o p (inr h) (inl f) q l =
 one_pending (x ∷ os) o p (inr h) (inr i) q l = one_pending os o p h i q (omega (arith, l))
 one_pending [] o p h i q l = absurd h
 
--- two associations with one server are one
+-- two associations with one server are the same
 one_with : (al : List Association) → Onces al → (a b : Association) → Has a al → Has b al → a.server ≡ b.server → a ≡ b
 one_with (x ∷ al) o a b (inl e) (inl f) q = e ∙ sym f
 one_with (x ∷ al) o a b (inl e) (inr k) q = absurd (o.first b k (sym (ap (λ (z : Association). z.server.0) e) ∙ ap (λ (z : ServerId). z.0) q))
@@ -224,7 +224,7 @@ module _ (k : Config) (count : ℕ) (past : List Step) (t : Traced) (e : Event) 
       go (inr (inl q)) = inr (z.2 ∙ ap (λ (y : Step). y.after.world) q)
       go (inr (inr i)) = absurd i
 
-  -- where an operation waits after the step, it is pending
+  -- if an operation waits after the step, it is pending
   waits_below : (c : ClientId) (op : ℕ) (s : ServerId) (life epoch number : ℕ) → WaitsUnder sc.world c s life epoch number op → op ≤ length (asks_of past2 c)
   waits_below c op s life epoch number w = subst (λ m. m ≤ length (asks_of past2 c)) w.is (numbered_below (asks_of past2 c) w.operation.op w.operation.ask ((n.base.cuts.clients c w.site w.at).asked w.operation w.there)).1
 
@@ -375,7 +375,7 @@ module _ (k : Config) (count : ℕ) (past : List Step) (t : Traced) (e : Event) 
     waits_of : (a : Association) → Has a (SiteAfter v c i site).node.state.associations → (o : Operation) → Has o (SiteAfter v c i site).node.state.operations → cs.is_asked a.server o ≡ true → Waits (cuts.Early past2 c) a.server a.life.0 (cuts.view a.session) o
     waits_of a j o l q = ((n.base.cuts.clients c (SiteAfter v c i site) at).all run a j).waits o l q
 
-    -- where it waits after the step, it is this operation
+    -- if it waits after the step, it is this operation
     this_one : (o : Operation) → Has o (SiteAfter v c i site).node.state.operations → (s : ServerId) (life epoch number : ℕ) → (w : WaitsUnder sc.world c s life epoch number o.op) → (w.operation ≡ o) × (w.site ≡ SiteAfter v c i site)
     this_one o l s life epoch number w = (one_pending w.site.node.state.operations w.operation o w.there (subst (λ (z : WorldClient). Has o z.node.state.operations) (sym site_is) l) w.is (moment.few c w.site w.at w.operation.op), site_is)
       where

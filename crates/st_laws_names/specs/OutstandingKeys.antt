@@ -28,7 +28,7 @@ pub record WaitsUnder (w : World) (c : ClientId) (s : ServerId) (life epoch numb
   pub outstanding : session.requests.asked ≡ Some request
   pub under : request.number ≡ number
 
--- two keys are one
+-- two keys are the same
 pub record SameKey (s t : ServerId) (life epoch number life2 epoch2 number2 : ℕ) : Type 0 where
   pub server : s ≡ t
   pub life_ : life ≡ life2

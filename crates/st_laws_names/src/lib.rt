@@ -23,7 +23,7 @@ pub fn asks_change_once()
 {}
 
 /// In every run keys have one operation: operations of a client that waited for the replies to
-/// requests of one key are one.
+/// requests of one key are the same.
 pub fn keys_have_one_operation()
     ensures { InEveryRun KeysHaveOneOperation }
 {}

@@ -68,8 +68,9 @@ pub fn pending_pages_stand_alone()
     ensures { PendingPagesStandAlone }
 {}
 
-/// Nothing is pending of a page that a client that runs has not dirty, while it has a lock on the
-/// file under a lease that is not over: what the disks give for the page is then its content.
+/// Nothing is pending of a page that is not dirty at a client that runs, while that client has a
+/// lock on the file under a lease that is not over: what the disks give for the page is then its
+/// content.
 pub fn locked_pages_are_settled()
     ensures { LockedPagesAreSettled }
 {}

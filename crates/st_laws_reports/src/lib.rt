@@ -15,7 +15,7 @@ pub fn losses_are_told()
 
 /// In every run lines give the next numbers: messages and commands have one line each under the
 /// next number, each line describes what has its number, and the last line counts what
-/// the lines before it have. A reader can so find each message and each command of a run in its
+/// the lines before it have. So a reader can find each message and each command of a run in its
 /// report by its number, and sees from the counts that no line is missing.
 pub fn lines_give_the_next_numbers()
     ensures { InEveryRun LinesGiveTheNextNumbers }

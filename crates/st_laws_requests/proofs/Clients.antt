@@ -1,4 +1,4 @@
--- A session stays its client's where it is ended and where a reply is kept: both change only its state.
+-- A session stays its client's when it is ended and when a reply is kept: both change only its state.
 use Rattle.st_lemmas.proofs.Words
 use Words.{◌≡◌, ℕ, Bool, true, false, refl, if◌then◌else◌, ClientId, Body, Session}
 use Words.Sessions as sessions

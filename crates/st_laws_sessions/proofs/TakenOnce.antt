@@ -89,7 +89,7 @@ not_next (Some s) life number reply (inr served) n = by_state s.state served.1 n
     by_state (Live last kept) (inr same) e = omega (arith, same.0, e)
     by_state Ended h e = e
 
--- where the next number is fresh, the served one gets its reply
+-- if the next number is fresh, the served one gets its reply
 latest_number : (last : ℕ) (kept : Option Body) (number : ℕ) (reply : Body) → number ≡ last → kept ≡ Some reply → take_number last kept number ≡ Again reply
 unfolding take_number take_from again
 latest_number last kept number reply same is =

@@ -26,7 +26,7 @@ module _ (form : ℕ) (f : is_third form ≡ false) where
   unfolding most_blocks
   blocks_are = ap (λ b. if b then 268435456 else 4096) f
 
-  -- with the limits of the first two forms a form is known, where it was
+  -- with the limits of the first two forms a form is known if it was
   form_with : (a b g : Bool) → (a && g) || b ≡ true → (a && (g && true)) || ((b && true) || (false && are_limits first_limits)) ≡ true
   form_with true true true e = refl
   form_with true true false e = refl

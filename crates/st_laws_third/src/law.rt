@@ -20,8 +20,8 @@ pub fn first_heads_stay()
     ensures { FirstHeadsStay }
 {}
 
-/// A client of the third form has something beside each of its associations. So it has after each
-/// step, with as many associations as before, and after a crash and a start.
+/// A client of the third form has something beside each of its associations. It still does after
+/// each step, with as many associations as before, and after a crash and a start.
 pub fn clients_stay_paired()
     ensures { ClientsStayPaired }
 {}

@@ -1,4 +1,4 @@
--- Through a whole step while one wait is the first of its file: the demands on the rows in its way are sent again, since a tick looks at each; and where
+-- Through a whole step while one wait is the first of its file: the demands on the rows in its way are sent again, since a tick looks at each; and if
 -- no other client answers for the file each of these rows is chased, since only an answer or a theft ends a demand.
 use Rattle.st_lemmas.proofs.Words
 use Words.{◌≡◌, ◌≢◌, ℕ, ◌+◌, ◌*◌, ◌≤◌, ◌<◌, ◌⊎◌, Bool, true, false, not, ◌&&◌, [], ◌==◌, refl, sym, ap, ◌∙◌, subst, inl, inr, arith, find, nat_le, Option, Some}
@@ -102,7 +102,7 @@ module _ (k : Config) (last : ℕ) (now : Stamp) (w : Waiter) (n : ServerState) 
           subst (λ (kb : Config). IsDue kb now true r.demand) config
           (pass_due (granting t now) now Tick (subst (λ (kb : Config). 1 ≤ kb.retry) (sym config) rp) w.ino w r.client r f (ap (row_of u.state.locks r.client) (sym g) ∙ row_found u.state.locks after.once r h) (against w r g o c) e)
 
--- Rows that are chased, where no other client answers for the file.
+-- Rows that are chased, if no other client answers for the file.
 module _ (from : ℕ) (k : Config) (gap last : ℕ) (now : Stamp) (w : Waiter) (i : ServerInput) (dp : 1 ≤ k.demand) (near : now.0 ≤ last + gap) where
   abbrev pub ChasedSilent : Authority → LockRow → Type 0
   ChasedSilent a r = Silent i w.ino r.g r.client × ChasedRow from k gap last w a r

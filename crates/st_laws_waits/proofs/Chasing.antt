@@ -43,7 +43,7 @@ found_is l once c ino q r h b e =
 
 -- A wait of one file, when a client asks for that file.
 module _ (w : Waiter) where
-  -- a wait that is raised is another one, or covers the mode already
+  -- a wait that is raised is replaced, or covers the mode already
   pub raised_other : (c : ClientId) (ino : ℕ) (mode : Mode) → covers w.mode mode ≡ false → is_wait_of c ino w ≡ true → (v : Waiter) → w ≡ raise c ino mode v → ⊥
   unfolding wait_for
   raised_other c ino mode lacks own v = cond_either (λ (y : Waiter). w ≡ y → ⊥) (is_wait_of c ino v) (wait_for mode v) v (λ e z. in_place z) (λ e z. not_both (is_wait_of c ino v) (subst (λ y. is_wait_of c ino y ≡ true) z own) e)

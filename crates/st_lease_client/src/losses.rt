@@ -30,7 +30,7 @@ impl LossPermit {
         at
     }
 
-    /// Returns what must be spent where the pages, the locks and the commands of the server are
+    /// Returns what must be spent when the pages, the locks and the commands of the server are
     /// discarded.
     pub fn split(self) -> (PageLoss, LockLoss, CommandLoss)
         ensures pages { result.0 ≡ self }
@@ -54,7 +54,7 @@ impl Model for PageLoss {
 }
 
 impl PageLoss {
-    /// Is called where the pages are discarded.
+    /// Is called when the pages are discarded.
     pub fn done(self) -> PagesGone
         ensures { result ≡ self }
     {
@@ -75,7 +75,7 @@ impl Model for LockLoss {
 }
 
 impl LockLoss {
-    /// Is called where the locks are discarded.
+    /// Is called when the locks are discarded.
     pub fn done(self) -> LocksGone
         ensures { result ≡ self }
     {
@@ -96,7 +96,7 @@ impl Model for CommandLoss {
 }
 
 impl CommandLoss {
-    /// Is called where the outstanding disk commands are forgotten.
+    /// Is called when the outstanding disk commands are forgotten.
     pub fn done(self) -> CommandsGone
         ensures { result ≡ self }
     {

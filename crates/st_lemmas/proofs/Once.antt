@@ -39,7 +39,7 @@ once_filter {A} same q (x ∷ xs) e = go (q x) refl (once_filter same q xs (once
     go true f i = once_both same x (filter q xs) (λ y h. once_first same x xs e y (has_filter q xs y h).0) i
     go false f i = i
 
--- members are changed in place, and stay as same as they were
+-- members are changed in place, so that the test says the same of any two as before
 pub once_map : {A : Type 0} (same : A → A → Bool) (f : A → A) → ((x y : A) → same (f x) (f y) ≡ same x y) → (xs : List A) → are_once same xs ≡ true → are_once same (map f xs) ≡ true
 once_map same f k [] e = e
 once_map same f k (x ∷ xs) e =

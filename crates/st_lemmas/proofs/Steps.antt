@@ -38,7 +38,7 @@ pub throughout_all : (promise : Promise) → ((past : List Step) (t : Traced) (e
     (es : List Event) (past : List Step) (t : Traced) → Throughout promise past (steps es t)
 throughout_all promise one es past t = throughout promise (λ past t. Unit {0}) (λ past t e sc s f. (one past t e sc f, tt)) es past t tt
 
--- a promise holds throughout where another one does, if that one and a fact of the past and the state give it at each step
+-- a promise holds throughout if another one does, provided that this other one, with a fact of the past and the state, gives it at each step
 pub throughout_under : (count : ℕ) (given promise : Promise) (Stands : List Step → Traced → Type 0) →
     ((past : List Step) (t : Traced) (e : Event) (sc : WorldTurn) → is_event count e ≡ true → Stands past t → world_step t.world e ≡ Ok sc →
     given past (step t e sc) → promise past (step t e sc) × Stands (past ++ step t e sc ∷ []) (traced_after e t sc)) →

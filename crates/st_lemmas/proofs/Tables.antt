@@ -40,7 +40,7 @@ cond_true b x y e = ap (λ (v : Bool). cond v x y) e
 pub cond_false : {A : Type 0} (b : Bool) (x y : A) → b ≡ false → cond b x y ≡ y
 cond_false b x y e = ap (λ (v : Bool). cond v x y) e
 
--- what holds of either branch where its test holds
+-- what holds of either branch if its test holds
 pub cond_either : {A : Type 0} (P : A → Type 0) (b : Bool) (x y : A) → (b ≡ true → P x) → (b ≡ false → P y) → P (cond b x y)
 cond_either P true x y p q = p refl
 cond_either P false x y p q = q refl
@@ -153,7 +153,7 @@ has_map f [] y h = elim h [ ]
 has_map f (x ∷ xs) y (inl e) = (x, inl refl, e)
 has_map f (x ∷ xs) y (inr i) = let r = has_map f xs y i in (r.0, inr r.1, r.2)
 
--- the same where only members count
+-- the same if only members count
 pub find_kept_in : {A : Type 0} (p q : A → Bool) (xs : List A) → ((x : A) → Has x xs → p x ≡ true → q x ≡ true) → find p (filter q xs) ≡ find p xs
 find_kept_in p q [] h = refl
 find_kept_in {A} p q (x ∷ xs) h = go (p x) (q x) refl refl (find_kept_in p q xs (λ y i. h y (inr i)))

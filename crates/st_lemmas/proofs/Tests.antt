@@ -14,7 +14,7 @@ filtered_no_longer p (x ∷ xs) = ⊎_elim
     (λ f. rw f (omega (arith, filtered_no_longer p xs)))
     (cases_Bool (p x))
 
--- what is found first is found among those that a test keeps, where it keeps it
+-- what is found first is found among those that a test keeps, if the test keeps it
 pub find_filtered : {A : Type 0} (p k : A → Bool) (x : A) (xs : List A) → find p xs ≡ Some x → k x ≡ true → find p (filter k xs) ≡ Some x
 find_filtered p k x [] e t = cc e
 find_filtered {A} p k x (z ∷ xs) e t = go (p z) (k z) refl refl e (find_filtered p k x xs)

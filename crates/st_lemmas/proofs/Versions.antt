@@ -23,7 +23,7 @@ pub version_failed : (ps : Pages) (ino : ℕ) (p : PageNo) (n : ℕ) → (pages.
 unfolding pages.fail
 version_failed ps ino p n = refl
 
--- versions stay where a page is used
+-- versions stay when a page is used
 pub version_used : (ps : Pages) (ino : ℕ) (p : PageNo) → (use_page ps ino p).next_version ≡ ps.next_version
 unfolding use_page use_clean use_at
 version_used ps ino p = by (dirty_of ps ino p)

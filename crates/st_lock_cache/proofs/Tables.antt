@@ -7,7 +7,7 @@ use Words.ServerInvariants.{are_once}
 use Rattle.st_tables.proofs.RowLists.{put_last}
 use Rattle.st_lock_cache.proofs.Once.{has_key, same_key}
 
--- where no row passes, nothing is written over
+-- if no row passes, nothing is written over
 none_written : {A : Type 0} (p : A → Bool) (x : A) (xs : List A) → list_any p xs ≡ false → map (λ r. if p r then x else r) xs ≡ xs
 none_written p x [] h = refl
 none_written {A} p x (y ∷ ys) h = go (p y) h (none_written p x ys)

@@ -42,10 +42,10 @@ pub record IsCached (c : LockCache) : Type 0 where
 abbrev pub Installs : ServerLocks → ServerLocks → Bool → ℕ → GrantNo → Mode → Type 0
 Installs old new taken ino g mode = (taken ≡ is_above_seen old.locks ino g) × (new ≡ with_locks (install_grant old.locks ino g mode) old)
 
--- a demand leaves and answers as its definition
+-- a demand leaves and answers what its definition says
 abbrev pub Demands : ServerLocks → ServerLocks → Asked → Demanding → Type 0
 Demands old new asked d = (asked ≡ d.asked) × (new ≡ with_locks d.locks old)
 
--- a reduction leaves and gives up as its definition
+-- a reduction leaves and gives up what its definition says
 abbrev pub Reduces : ServerLocks → ServerLocks → Option (GrantNo × Mode) → Reduced → Type 0
 Reduces old new given r = (given ≡ r.given) × (new ≡ with_locks r.locks old)

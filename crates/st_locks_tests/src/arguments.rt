@@ -1,4 +1,4 @@
-// Clients, modes and rows of numbers, where they are what the calls require.
+// Clients, modes and rows of numbers, if they are what the calls require.
 ghost use Rattle.std.specs.Prelude.{◌≡◌, IfSome, true, false};
 ghost use Rattle.st_locks.specs.Calls.{is_lock, is_lock_row, is_old_row};
 ghost use Rattle.st_locks.specs.DemandStarts.{IsClient};

@@ -65,7 +65,7 @@ fn drawn_target(plain: &Plain, draws: &mut Draws, ask: Ask) -> Ask {
     }
 }
 
-/// The grant number of the client's row of the file, or seldom the one below.
+/// The grant number of the client's row of the file, or rarely the one below.
 fn drawn_grant(plain: &Plain, draws: &mut Draws, ask: Ask) -> u64 {
     match plain.row(ask.client, ask.ino) {
         Some(row) => row.g.wrapping_sub(draws.draw(8).max(6) - 6),
@@ -200,7 +200,7 @@ fn drop_waits(locks: &mut LockTable, plain: &mut Plain, draws: &mut Draws, ask: 
     true
 }
 
-/// A call that is drawn seldom.
+/// A call that is drawn rarely.
 fn rare(
     alloc: Global,
     locks: &mut LockTable,

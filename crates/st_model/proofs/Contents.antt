@@ -60,7 +60,7 @@ neither true false true h q t = absurd (true≢false q)
 neither true false false h q t = absurd (true≢false (sym (h refl)))
 neither false r s h q t = refl
 
--- a number is at most n, or at most n + 1, alike, where it is not n + 1
+-- a number is at most n, or at most n + 1, alike, if it is not n + 1
 alike : (c n : ℕ) → (c ≤ n) ⊎ (n + 2 ≤ c) → nat_le c (n + 1) ≡ nat_le c n
 alike c n h = ⊎_elim
     (λ q. le-leb c (n + 1) (omega (arith, q)) ∙ sym (le-leb c n q))

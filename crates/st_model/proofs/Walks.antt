@@ -51,7 +51,7 @@ get_or_rest ks js i d q =
     let s : i + 0 ≡ i = omega arith in
     ap (λ j. get_or ks j d) (sym s) ∙ sym (get_or-drop i ks 0 d) ∙ ap (λ x. get_or x 0 d) q ∙ get_or-drop i js 0 d ∙ ap (λ j. get_or js j d) s
 
--- the same, where the list is the old one from here on
+-- the same, if the list is the old one from here on
 pub place_below_now : (es now : List LogEntry) (ks js : List ℕ) (i d : ℕ) → js ≡ pending_from 0 es → drop i ks ≡ drop i js → length ks ≡ length js → length now ≡ length es → i < length ks → get_or ks i d < length now
 place_below_now es now ks js i d q r s t l = rw t (rw (get_or_rest ks js i d r) (place_below es js i d q (rw (← s) l)))
 

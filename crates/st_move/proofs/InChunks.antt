@@ -1,4 +1,4 @@
--- Where an update is in chunks.
+-- Where the bytes of an update are in chunks.
 use Rattle.st_lemmas.proofs.Words
 use Words.{◌≡◌, ℕ, zero, suc, ◌+◌, ◌-◌, ◌*◌, ◌/◌, ◌%◌, ◌<◌, ◌≤◌, true, List, [], ◌∷◌, ◌++◌, length, Some, slice_get, refl, sym, ap, ◌∙◌, subst, arith}
 use Words.{append_assoc, length-append, list_all, eqb-true}

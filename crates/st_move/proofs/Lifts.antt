@@ -73,7 +73,7 @@ order_answers m c p to old new result e f h =
     subst (λ y. Answers m (with_records m (set m.records p new)) result (changed m c (ordered m.server to (changeable y)))) (sym (found_there m c p old e f))
     (answers m c p old new (ordered m.server to (changeable (found_at c (Some old)))) result e f h)
 
--- where there is no such container
+-- if there is no such container
 pub put_nowhere : (m : Containers) (c : ℕ) (u : List ℕ) → numbered m.records c ≡ None → after_put m c u ≡ Err (refusals.NoContainer c)
 unfolding found found_at changeable updated changed
 put_nowhere m c u e = ap (λ o. changed m c (updated u (changeable (found_at c o)))) e
@@ -82,7 +82,7 @@ pub order_nowhere : (m : Containers) (c : ℕ) (to : ServerId) → numbered m.re
 unfolding found found_at changeable ordered changed
 order_nowhere m c to e = ap (λ o. changed m c (ordered m.server to (changeable (found_at c o)))) e
 
--- where a put or an order may come, the container is served
+-- if a put or an order may come, the container is served
 pub may_serve : (rs : List (Option ContainerRecord)) (c : ℕ) (r : ContainerRecord) (result : Result Unit MoveRefusal) → found rs c ≡ Ok r → allowed r result ≡ unless_leaving r r.state → OnOk result (serves_by (found rs c) ≡ true)
 unfolding unless_leaving unless_sent
 may_serve rs c r (Err e) f h = tt

@@ -1,4 +1,4 @@
--- A file has holders exactly where it has a row.
+-- A file has holders exactly when it has a row.
 use Rattle.st_lemmas.proofs.Words
 use Words.{◌≡◌, ℕ, ◌<◌, ◌⊎◌, Bool, true, false, List, [], ◌∷◌, length, map, filter, Option, Some, None, refl, sym, ap, ◌∙◌, subst, inl, inr, arith, eqb, lt-ltb}
 use Words.{le-ltb, filter_map, option_map, not, ◌==◌, nat_lt, list_any, cons_option, ClientId, GrantNo, Mode, LockRow}

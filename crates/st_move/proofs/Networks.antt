@@ -46,7 +46,7 @@ numbered_at xs n p x e f = let g : n ≡ suc p = e ∙ omega arith in ap (number
 pub with_numbered_at : {A : Type 0} (xs : List A) (n p : ℕ) (x : A) → n ≡ p + 1 → with_numbered n x xs ≡ set xs p x
 with_numbered_at xs n p x e = let g : n ≡ suc p = e ∙ omega arith in ap (λ k. with_numbered k x xs) g
 
--- only an answer, in a world where nothing changed
+-- only an answer, in a world in which nothing changed
 told_same : (w : MoveWorld) (s : ServerId) (x : MoveSite) (a : MoveAnswer) → numbered w.sites s.0 ≡ Some x → told w a ≡ told (with_site s x w) a
 told_same w s x a e = ap (λ xs. told (record { sites = xs; sent = w.sent }) a) (sym (numbered_same w.sites s.0 x e))
 

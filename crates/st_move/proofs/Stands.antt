@@ -192,7 +192,7 @@ relocked containers h st s x e l tokens known_rows = record {
         go (inl j) = known_rows c (sym (ap (λ o. locked_in o c) (numbered_own h.world.sites s (site_locked x l) x e)) ∙ subst (λ k. has_row (world_with h.world s (site_locked x l) h.world.sent) c k ≡ true) j i)
         go (inr n) = st.rows c z (bool_true _ _ (row_other h.world s x (site_locked x l) h.world.sent e c z n) i)
 
--- a container is locked by client 1 where it is served
+-- a container is locked by client 1 if it is served
 pub lock_stands : (containers : ℕ) (h : MoveHistory) → Stands containers h → (s : ℕ) (x : MoveSite) → numbered h.world.sites s ≡ Some x → (c : ℕ) (r : ContainerRecord) → IsHeldAt x.containers.records c r
     → Stands containers (record { world = world_with h.world s (site_locked x (locked x.locks c)) h.world.sent; accepted = h.accepted })
 lock_stands containers h st s x e c r at = relocked containers h st s x e (locked x.locks c) tokens rows

@@ -173,7 +173,7 @@ module _ {c : ℕ} {rec : Records} {row : ℕ → Bool} {accepted : List (List �
           go (inl o) = inl o
           go (inr o) = inr (received_grows c rec new t.top accepted accepted t.kept.state t.kept.state m.to m.message (same_grow rec new e) (λ x i. (i, refl)) o)
 
-  -- client 1 gets a lock where the container is served
+  -- client 1 gets a lock if the container is served
   pub locks : (lock : ℕ → Bool) (s : ℕ) (r : ContainerRecord) → rec s ≡ Some r → r.state ≡ Holding → ((x : ℕ) → x ≢ s → row x ≡ false → lock x ≡ false) → Token c rec lock accepted ms
   locks lock s r e h other = keep t rec lock accepted ms (record {
     kept = t.kept;

@@ -164,7 +164,7 @@ impl Mover {
     /// The container must move to another server, as soon as nobody has a lock row of it.
     ///
     /// # Errors
-    /// `NoContainer`, `Absent`, `Leaving` and `Redirect`; `Same` if the order is to move it to
+    /// `NoContainer`, `Absent`, `Leaving` and `Redirect`; `Same` if the order would move it to
     /// this server. Then nothing changed.
     pub fn order(&mut self, c: u32, to: ServerId) -> Result<(), MoveRefusal>
         ensures { Answers self.old self.new result (containers.after_order self.old c to) }

@@ -192,7 +192,7 @@ part_by : (f : Frames) (g : Frames) (o : Option CodecRefusal) → next_by f o �
 part_by f g None e = part_at f g (front f.rest) refl e
 part_by f g (Some r) e = absurd (not_some (Err r) (said_same f g (said (Err r)) None e))
 
--- where no frame is whole, few bytes are held
+-- if no frame is whole, few bytes are held
 pub part_few : (f : Frames) (g : Frames) → next f ≡ (g, None) → length f.rest < 65540
 unfolding next
 part_few f g e = part_by f g f.refusal e
@@ -212,7 +212,7 @@ none_by : (f : Frames) (g : Frames) (o : Option CodecRefusal) → next_by f o �
 none_by f g None e = none_at f g (front f.rest) e
 none_by f g (Some r) e = absurd (not_some (Err r) (said_same f g (said (Err r)) None e))
 
--- where no frame is whole, the reader stays
+-- if no frame is whole, the reader stays
 pub none_stays : (f : Frames) (g : Frames) → next f ≡ (g, None) → next f ≡ (f, None)
 unfolding next
 none_stays f g e = none_by f g f.refusal e

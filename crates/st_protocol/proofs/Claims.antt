@@ -230,7 +230,7 @@ module _ (k : Config) where
   shrinks _ t l q fr i mode o (ByGrant x st g y s) = it (ByGrant x st g y s)
   shrinks _ t l q fr i mode o (ByReassert u life st locks y e) = it (ByReassert u life st locks y e)
 
-  -- a server that was in service is out of it only where it stops
+  -- a server that was in service is out of it only if it stops
   pub stopped : {a b : Assoc} → Move k a b → Timing k a → Locks k a → a.s.up ≡ true → a.s.grace ≡ false → Frozen b.s → (i mode : ℕ) → 1 ≤ mode → Claim k b i mode → mode ≤ (a.s.row i).mode
   stopped (Stops a u2) t l u g fb i mode o c = claims_of_rows a t l u g i mode o c
   stopped (Starts a u2) t l u g fb i mode o c = cc

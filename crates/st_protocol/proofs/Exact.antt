@@ -123,7 +123,7 @@ module _ (k : Config) where
       go (inr (inl z)) = absurd (omega arith)
       go (inr (inr z)) = absurd (not_lost k a t al z)
 
-  -- a grant on its way isn't above the row that is there, where it is above what was seen
+  -- a grant on its way isn't above the row that is there, if it is above what was seen
   under_row : (a : Assoc) → Timing k a → Locks k a → SameSession a → Alive k a.c → (st i g mode x : ℕ) → In (msg a.c.life a.c.epoch st (Granted i g mode)) a.net → a.c.seen i < x → x ≡ (a.s.row i).g → g ≤ x
   under_row a t l s al st i g mode x y lt e = go (l.msgs s.up _ y refl s.epoch).cases
     where
@@ -149,7 +149,7 @@ module _ (k : Config) where
       go (Sent m2 (RowOf s a3 o f tp n) two lt) (New s2 gr2 a2 r2 tp2 tb2 n2) = absurd (omega arith)
       go (Sent m2 (RowOf s a3 o f tp n) two lt) (RowOf s2 a2 o2 f2 tp2 n2) = omega arith
 
-  -- where the rows' numbers do not rise
+  -- if the rows' numbers do not rise
   exact_by : {a b : Assoc} → Exact k a → SameSession a → (i x : ℕ) → (b.s.row i).g ≤ (a.s.row i).g → Earlier k a b i x → (b.s.row i).g ≤ x
   exact_by e s i x h (Was old le ao eo) = let z = e.exact s ao i old eo in omega (arith, z)
   exact_by e s i x h (Sent m (Old st y al) two lt) = let z = e.exact s al i x (Comes st m y two lt) in omega (arith, z)

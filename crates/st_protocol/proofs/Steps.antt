@@ -121,7 +121,7 @@ module _ (k : Config) where
       go z (inr x) = inr (lost k (Sweeps a row p) t l refl u x)
   held ok m t l u e s i o = or_right _ _ _ (lost k m t l refl u) (l.held u e s i o)
 
-  -- where neither the client's locks nor the rows move
+  -- if neither the client's locks nor the rows move
   still : {a : Assoc} (b : Assoc) → Locks k a → (Lost k a → Lost k b) → a.s.up ≡ true → (m : Msg) → In m a.net → m.life ≡ a.c.life → m.epoch ≡ a.s.epoch →
       Now a.c.life a.s.row a.c.held a.c.seen (Lost k b) (a.c.epoch ≡ a.s.epoch) (a.s.session < a.c.life) m.body
   still {a} b l f u m i e p =

@@ -8,7 +8,7 @@ module _ {A : Type 0} (p : A → Bool) where
   none_by x xs true q h e = h e
   none_by x xs false q h e = cc
 
-  -- where none fails a test, all pass it
+  -- if none fails a test, all pass it
   pub none_fails : (xs : List A) → find (λ x. not (p x)) xs ≡ None → list_all p xs ≡ true
   none_fails [] e = refl
   none_fails (x ∷ xs) e = none_by x xs (p x) refl (none_fails xs) e

@@ -1,4 +1,4 @@
--- The rows that a client has of lower lives, where all its rows are such, and the first file of them.
+-- The rows that a client has of lower lives, if all its rows are such, and the first file of them.
 use Rattle.std.proofs.Common.{◌≡◌, ℕ, ◌⊎◌, Bool, true, false, ◌&&◌, ◌||◌, ◌==◌, not, cond, List, [], ◌∷◌, Option, Some, None, refl, sym, ap, ◌∙◌, inl, inr}
 use Rattle.std.specs.Prelude.{filter, filter_map, find, map, nat_le, nat_lt, slice_get, option_map}
 use Rattle.std.specs.List.{cons_option, list_any}

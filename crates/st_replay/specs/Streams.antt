@@ -62,7 +62,7 @@ RefusesLine faults.Write line why before now old = AppendsPrefix before now (old
 RefusesLine faults.Memory line why before now old = now ≡ before
 RefusesLine faults.Read line why before now old = ⊥
 
--- the same of where a replay was stopped; if memory ran out nothing was written
+-- the same of where a replay was stopped; if memory ran out, nothing was written
 abbrev pub Refuses : ReplayFault → Stop → Option (List ℕ) → Option (List ℕ) → List ℕ → Type 0
 Refuses r (stops.Line line why) before now old = RefusesLine r line why before now old
 Refuses r stops.Memory before now old = (r ≡ faults.Memory) × (now ≡ before)

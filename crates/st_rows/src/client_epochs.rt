@@ -46,7 +46,7 @@ pub fn a_new_epoch_gives_up_the_request()
         ∷ [] }
 {}
 
-/// Waits, releases and demands are forgotten, and the locks are reasserted once more where a second
+/// Waits, releases and demands are forgotten, and the locks are reasserted once more if a second
 /// epoch comes first.
 #[tactic(auto, unfolding(crate::specs::ClientScript::client_script_open))]
 pub fn a_new_epoch_forgets_what_was_under_way()

@@ -250,7 +250,7 @@ pub fn a_write_forgets_the_read_of_its_page()
         ∷ [] }
 {}
 
-/// Extents that were asked under another grant than the lock's are not known.
+/// Extents that were asked under a grant other than the lock's are not known.
 #[tactic(auto, unfolding(crate::specs::ClientScript::client_script_open))]
 pub fn extents_of_an_older_grant_are_not_learned()
     ensures { said (

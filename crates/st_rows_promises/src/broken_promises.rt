@@ -337,7 +337,7 @@ pub fn a_line_without_its_message_is_refused()
     ensures kept { IsKeptBut (20 ∷ []) (past reading) told_and_not_sent }
 {}
 
-/// A theft that is counted, and of which no line tells.
+/// A theft that is counted, but that no line reports.
 #[tactic(auto, unfolding(crate::specs::BrokenPromises::broken_open))]
 pub fn a_theft_without_a_line_is_refused()
     ensures broken { ¬ TheCountsAreTrue (past reading) counted_and_not_told }
@@ -396,7 +396,8 @@ pub fn a_cut_that_is_done_and_refused_is_refused()
     ensures kept { IsKeptBut (24 ∷ []) (past cutting) cut_and_refused }
 {}
 
-/// A name that is answered with another inode than the names have. Their own inode isn't a fault.
+/// A name that is answered with an inode other than the one in the names. Their own inode isn't a
+/// fault.
 #[tactic(auto, unfolding(crate::specs::BrokenPromises::broken_open))]
 pub fn a_name_that_was_not_said_is_refused()
     ensures broken { ¬ NamesAnswerTruly (past_asked looking) named_wrongly }
@@ -432,7 +433,7 @@ pub fn a_change_of_names_that_is_not_asked_is_refused()
     ensures kept { IsKeptBut (26 ∷ 27 ∷ []) (past reading) created_and_not_asked }
 {}
 
-/// A change of names that is another than the one that was asked.
+/// A change of names other than the one that was asked.
 #[tactic(auto, unfolding(crate::specs::BrokenPromises::broken_open))]
 pub fn a_change_of_names_to_others_is_refused()
     ensures broken { ¬ NamesChangeAsAsked (past creating) created_otherwise }

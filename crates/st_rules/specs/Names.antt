@@ -187,7 +187,7 @@ abbrev pub climb : (ℕ → Bool) → Option NameEntry → Bool
 climb go_on None = false
 climb go_on (Some e) = go_on e.dir
 
--- a directory is another one or lies under it; it climbs at most this number of steps
+-- whether a directory is the first one or lies under it; it climbs at most this number of steps
 unfoldable pub is_under_in : Names → ℕ → ℕ → ℕ → Bool
 is_under_in n top zero dir = dir == top
 is_under_in n top (suc steps) dir = (dir == top) || climb (is_under_in n top steps) (entry_of_ino n dir)

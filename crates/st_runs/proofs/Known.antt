@@ -1,4 +1,4 @@
--- The bytes of a source, where it knows them, are those of a schedule that runs safely.
+-- The bytes of a source, if it knows them, are those of a schedule that runs safely.
 use Rattle.std.proofs.Common.{ℕ, List}
 use Rattle.std.specs.Prelude.{Option, Some, None, IfSome}
 use Rattle.st_runs.specs.Schedule.{lines_of}

@@ -289,7 +289,7 @@ ask_verb_found form ws y h =
     let k = ask_verb_is form p.0 y.0 p.2 in
     record { text = p.1 ∙ ap (λ (v : List ℕ). v ∷ y.1) k.0; fits = k.1 }
 
--- Events. A word and the words after it spell an event, where nothing is left.
+-- Events. A word and the words after it spell an event, if nothing is left.
 
 abbrev pub Tells : ℕ → ℕ → List ℕ → List (List ℕ) → Event × List (List ℕ) → Type 0
 Tells form nodes w ws y = y.1 ≡ [] → Spells form nodes (w ∷ ws) y.0
@@ -444,7 +444,7 @@ short_words : (d n : ℕ) → 1 ≤ n → steps_words (replicate n d) ≡ decima
 short_words d zero some = absurd (omega arith)
 short_words d (suc n) some = let k = all_equal d (suc n) in rw k refl
 
--- the words after an advance, where nothing is left
+-- the words after an advance, if nothing is left
 advance_of : (form nodes d : ℕ) (ws rest : List (List ℕ)) (s : List ℕ × List (List ℕ)) → 1 ≤ nodes → ws ≡ decimal d ∷ rest → IsWithin (least_step form) MOST_NUMBER d → steps_of (least_step form) nodes d ws rest ≡ Ok s
     → s.1 ≡ [] → Spells form nodes (codes "adv" ∷ ws) (events.Advance s.0)
 unfolding steps_of words_after

@@ -45,7 +45,7 @@ unfolding steps_of
 steps_go_on least nodes d ws [] h = absurd (omega arith)
 steps_go_on least nodes d ws (w ∷ rest) h = refl
 
--- where bytes follow the first increment, there are more words
+-- if bytes follow the first increment, there are more words
 pub more_words : (least nodes d : ℕ) (ws : List (List ℕ)) (rest : List ℕ) → 0 < length rest → steps_of least nodes d ws (words_behind rest) ≡ steps_at least nodes ws
 more_words least nodes d ws [] h = absurd (omega arith)
 more_words least nodes d ws (b ∷ bs) h = steps_go_on least nodes d ws _ (split-some bs)

@@ -9,7 +9,7 @@ unfolding ends
 ends-some [] h = absurd (omega arith)
 ends-some (w ∷ ws) h = refl
 
--- where bytes follow, a word is too much
+-- if bytes follow, a word is too much
 pub too_much : (rest : List ℕ) → 0 < length rest → ends (words_behind rest) ≡ syntax_at (words_behind rest)
 too_much [] h = absurd (omega arith)
 too_much (b ∷ bs) h = ends-some _ (split-some bs)

@@ -51,7 +51,7 @@ or_syntax_ok : {A : Type 0} (o : Option A) (ws rest : List (List ℕ)) (y : A ×
 or_syntax_ok {A = A} None ws rest y h = absurd (cc)
 or_syntax_ok {A = A} (Some x) ws rest y h = let e : (x, rest) ≡ y = cc in (ap (λ (p : A × List (List ℕ)). Some p.0) e, ap (λ (p : A × List (List ℕ)). p.1) e)
 
--- a word and what follows it, where a value was found in it
+-- a word and what follows it, if a value was found in it
 pub place_ok : {A : Type 0} (means : List ℕ → Option A) (ws : List (List ℕ)) (y : A × List (List ℕ)) → place means ws ≡ Ok y → (w : List ℕ) × (ws ≡ w ∷ y.1) × (means w ≡ Some y.0)
 place_ok means [] y h = absurd (cc)
 place_ok means (w ∷ ws) y h = let k = or_syntax_ok (means w) (w ∷ ws) ws y h in (w, ap (λ (vs : List (List ℕ)). w ∷ vs) k.1, k.0)

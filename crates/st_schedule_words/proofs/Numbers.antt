@@ -11,7 +11,7 @@ use Rattle.st_schedule_words.specs.Words.{is_digit, is_number, value_from, value
 pub own : IsNumeralModel (λ ds. list_all is_digit ds ≡ true) (value_from 0)
 own = numerals_by_fold _ (search rules) value_from (search rules)
 
--- a word that begins with another byte than a zero, or has no other byte, has no leading zero
+-- a word that begins with a byte other than a zero, or has no other byte, has no leading zero
 no_zero : (w : List ℕ) → 48 < get_or w 0 0 → has_leading_zero w ≡ false
 no_zero [] h = refl
 no_zero (b ∷ bs) h = grind (arith, nat_tests)

@@ -91,7 +91,7 @@ stops_reports holds after rules done first before mid now bytes o e stops g h =
     rest_reports holds after rules done first before mid now (lines_of bytes) o (Err e) g
     (subst (Reports after (Err e) mid now) (sym (stops (first + done) g.state)) (refused_reports after e (first + done) mid now h))
 
--- where `end` is missing
+-- if `end` is missing
 pub missing_stops : {State Event : Type 0} (rules : Rules State Event) (done : ℕ) (bytes : List ℕ) → bytes ≡ [] → (line : ℕ) (s : State) →
     play_from rules done line s (lines_of bytes) ≡ stopped line
 unfolding play_from
@@ -106,7 +106,7 @@ pub next_line : {State Event : Type 0} (holds : State → Type 0) (rules : Rules
     lines_of bytes ≡ line ∷ lines_of after → Goes holds rules done first before mid (lines_of bytes) o → NextLine holds rules done first before mid line after o
 next_line holds rules done first before mid bytes line after o e g = record { goes = subst (λ x. Goes holds rules done first before mid x o) e g }
 
--- where a line is malformed
+-- if a line is malformed
 pub malformed_stops : {State Event : Type 0} (rules : Rules State Event) (done : ℕ) (l : List ℕ) (ls all : List (List ℕ)) → all ≡ l ∷ ls → read_line rules done l ≡ None →
     (line : ℕ) (s : State) → play_from rules done line s all ≡ stopped line
 malformed_stops rules done l ls all are none line s =
@@ -186,7 +186,7 @@ pub no_head_stops : {State Event : Type 0} (head : List (List ℕ) → Result St
 unfolding headed_lines
 no_head_stops head rules bytes none = ap (λ x. headed_lines head rules (lines_of x)) none
 
--- where it is malformed
+-- if it is malformed
 pub bad_head_stops : {State Event : Type 0} (head : List (List ℕ) → Result State Fault) (rules : Rules State Event) (bytes line : List ℕ) (ls : List (List ℕ)) →
     lines_of bytes ≡ line ∷ ls → first_line head line ≡ None → headed_lines head rules (lines_of bytes) ≡ stopped 1
 bad_head_stops head rules bytes line ls e none = sym (head_played head rules bytes line ls None e none)

@@ -102,7 +102,7 @@ leads_stopped p xs x t u l e = by_kept (keeps p)
     by_kept true = leads_on xs t u x l e
     by_kept false = l
 
--- the journal has one change more exactly where the change is kept
+-- the journal has one change more exactly when the change is kept
 pub kept_is : (p : SetStop) (xs : List Change) (x : Change) → nat_lt (length xs) (length (after_stop p.call p.byte x xs)) ≡ keeps p
 kept_is p xs x = by_kept (keeps p)
   where

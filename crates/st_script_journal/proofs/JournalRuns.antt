@@ -81,7 +81,7 @@ open_low j xs t o =
 pub has_room : (j : Opened InMemory) (xs : List Change) (t : Stable) (x : Change) → IsOpen j xs t → HasRoom t x
 has_room j xs t x o = low_room (length xs) t x (omega (arith, few_changes j xs t o)) (open_low j xs t o)
 
--- where fewer changes are in the journal than a script has events, there is room for one more
+-- if fewer changes are in the journal than a script has events, there is room for one more
 has_bytes : (j : Opened InMemory) (xs : List Change) (t u : Stable) (x : Change) → IsOpen j xs t → apply t x ≡ Ok u → length xs < 10000 →
     room_for x ≤ room_behind (length (read_as j.store)) j.gate
 has_bytes j xs t u x o e few =
@@ -92,7 +92,7 @@ has_bytes j xs t u x o e few =
 pub sound_on : (old new : InMemory) → Keeps old new → IsSound old.plan → IsSound new.plan
 sound_on old new k s = record { none = ap (λ (v : Vec ℕ Global). v.items) k.failing ∙ s.none; quiet = k.quiet s.quiet }
 
--- an append where no stop is set
+-- an append if no stop is set
 pub opened_on : (r : Result Unit JournalFault) (old new : Opened InMemory) (xs : List Change) (t u : Stable) (x : Change) → IsOpen old xs t → apply t x ≡ Ok u →
     Records read_as left_by new (acked_after r x xs) (under_way_after r x None) → Keeps old.store new.store → OnOk r (IsOpen new (xs ++ x ∷ []) u)
 opened_on (Ok done) old new xs t u x o e r k =

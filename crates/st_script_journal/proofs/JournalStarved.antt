@@ -45,7 +45,7 @@ works p s =
 sound_counted : (s : InMemory) (next : Contents) → IsSound s.plan → IsSound (changed (counted s) next).plan
 sound_counted s next h = record { none = h.none; quiet = record { unset = ap plans.counted_down h.quiet.unset; runs = h.quiet.runs } }
 
--- a step after which the store is sound where it went well, and starved where it failed
+-- a step after which the store is sound if it went well, and starved if it failed
 record IsTame (step : Step InMemory) : Type 0 where
   sound : (s t : InMemory) → IsSound s.plan → step s went_well t → IsSound t.plan
   starved : (s t : InMemory) (f : Failed) → IsSound s.plan → step s (failed_with f) t → t.starved ≡ true

@@ -3,11 +3,11 @@ use Rattle.std.proofs.Common.{◌≡◌, ℕ, List, ◌++◌, ◌∙◌, ap}
 use Rattle.std.specs.Prelude.{Result, Ok, Err, OnOk}
 use Rattle.std.proofs.lemmas.List.{append_assoc}
 
--- two texts are one
+-- two texts are the same
 pub both : (a b c t u : List ℕ) → b ≡ a ++ t → c ≡ b ++ u → c ≡ a ++ (t ++ u)
 both a b c t u e f = f ∙ ap (λ x. x ++ u) e ∙ append_assoc a t u
 
--- and where the last call went well
+-- and if the last call went well
 pub both_ok : {A E : Type 0} (r : Result A E) (a b c t u : List ℕ) → b ≡ a ++ t → OnOk r (c ≡ b ++ u) → OnOk r (c ≡ a ++ (t ++ u))
 both_ok (Err x) a b c t u e f = tt
 both_ok (Ok x) a b c t u e f = both a b c t u e f

@@ -17,7 +17,7 @@ use st_schedule::{ReadError, unknown_word};
 use st_script::{Script, ScriptFault, run};
 use std::alloc::{AllocError, Global};
 
-/// A script of a journal: the journal that is running, which there is until memory runs out.
+/// A script of a journal: the journal that is running, which exists until memory runs out.
 #[derive(Drop)]
 pub struct JournalScript {
     running: Option<Running>,
@@ -148,7 +148,7 @@ fn run_script<I: Source, O: Sink>(
 /// Runs a script of a journal: events `epoch`, `allocate I P N`, `cut I P`, `create D NAME`,
 /// `mkdir D NAME`, `remove D NAME`, `rename D NAME T NAME2` and `stop M B`, and `end`.
 /// `docs/PROTOCOL.md`, "Scripts", has their answers. The store has 4 MiB of zeros, none of its
-/// calls is to fail, and no stop is set. It is given back with the journal of exactly the changes
+/// calls fails, and no stop is set. It is given back with the journal of exactly the changes
 /// that were answered `ok` or `stopped kept`, in their order. Otherwise it returns what `run` does.
 pub fn journal<I: Source, O: Sink>(
     alloc: Global,

@@ -8,7 +8,7 @@ use Words.Tables.{same_or_not}
 use Rattle.st_shared.specs.declared.members.Member.{Member}
 use Rattle.st_shared.specs.Shared.{is_member, least_member, running, stop_member, without_member}
 
--- one client is another, or is not
+-- one client is the same as another, or is not
 pub flip_client : (c d : ClientId) → same_client c d ≡ same_client d c
 flip_client c d = go (same_or_not c.0 d.0)
   where
@@ -63,7 +63,7 @@ in_stopped (m ∷ ms) c d =
     go true e = refl
     go false e = e
 
--- nobody is in where there is no least client
+-- nobody is in if there is no least client
 pub nobody : (ms : List Member) → least_member ms ≡ None → ms ≡ []
 unfolding least_member
 nobody [] e = refl

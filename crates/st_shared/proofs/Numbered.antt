@@ -41,7 +41,7 @@ numbered_push {A} xs y n = go (same_or_not (length (xs ++ y ∷ [])) n)
         push_other xs y n (λ e. d (more ∙ sym e))
         ∙ sym (if_false (length (xs ++ y ∷ []) == n) (Some y) (numbered xs n) (ne_eqb _ _ d))
 
--- what says nothing of one more
+-- what says nothing about one more
 pub same_push : {A B : Type 0} (f : Option A → B) (xs : List A) (y : A) (n : ℕ) → f (Some y) ≡ f None → f (numbered (xs ++ y ∷ []) n) ≡ f (numbered xs n)
 same_push {A} f xs y zero e = refl
 same_push {A} {B} f xs y (suc n) e = at xs n

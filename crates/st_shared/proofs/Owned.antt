@@ -27,7 +27,7 @@ or_out : (a b r : Bool) → (a ≡ true → b ≡ true) → (not b || r) ≡ tru
 or_out false b r h e = refl
 or_out true b r h e = ap (λ x. not x || r) (sym (h refl)) ∙ e
 
--- where all stay in that were in
+-- if all stay in that were in
 owned_more : (ms ns : List Member) (o : Option Issuer) (d : Option DiskCommand) → ((c : ClientId) → is_some (find (is_member c) ms) ≡ true → is_some (find (is_member c) ns) ≡ true) →
     is_owned ms o d ≡ true → is_owned ns o d ≡ true
 owned_more ms ns None d h e = refl

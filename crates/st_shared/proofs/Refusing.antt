@@ -13,7 +13,7 @@ use Rattle.st_shared.specs.Shared as rules
 use Rattle.st_shared.specs.Shared.{Shared, both, check_page, check_running, check_submit, checked, effect_timely, is_expired, member_of, submit, submitted}
 use Rattle.st_shared.specs.Shared.{with_disk}
 
--- where a rule has a refusal that isn't lack of memory, a call that returns it does what the rule says
+-- if a rule has a refusal that isn't lack of memory, a call that returns it does what the rule says
 does_refused : (s : Shared) (rule : Result Shared SharedRefusal) (r : SharedRefusal) → rule ≡ Err r → (rule ≡ Err Memory → ⊥) → DoesOrLacks s s (Err r) rule
 does_refused s rule Memory e never = absurd (never e)
 does_refused s rule r e never = (e, refl)

@@ -1,4 +1,4 @@
--- What was called and answered, and what is promised about it: which writes reads return, and what holds where clients come and go.
+-- What was called and answered, and what is promised about it: which writes reads return, and what holds when clients come and go.
 use Rattle.std.specs.Prelude.{◌≡◌, ℕ, Bool, true, false, not, ◌&&◌, ◌||◌, ◌==◌, if◌then◌else◌, List, [], ◌∷◌, length, Option, Some, None, Result, Ok, Err}
 use Rattle.st_base.specs.Page.{filled}
 use Rattle.st_base.specs.declared.ids.ClientId.{ClientId}

@@ -13,7 +13,7 @@ member_all P n (x ∷ xs) a h = ⊎_elim
     (λ t. member_all P n xs a.1 t)
     (or_cases (n == x) (list_any (λ x. n == x) xs) h)
 
--- where none that is there passes, none does
+-- if none that is there passes, none does
 pub none_passes : (q : ℕ → Bool) (xs : List ℕ) → ((x : ℕ) → list_any (λ y. x == y) xs ≡ true → q x ≡ false) → list_any q xs ≡ false
 none_passes q [] h = refl
 none_passes q (x ∷ xs) h =

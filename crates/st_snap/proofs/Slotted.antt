@@ -200,7 +200,7 @@ module _ (x : Extents) (d : Disks) (last : ℕ) (s : AreSlots x d last) where
 
 -- Bytes are written.
 
--- two rows of one block are one row
+-- two rows of one block are the same row
 one_row : (rows : List Extent) → IsDistinct on_one_block rows → (q r : Extent → Bool) (a b : Extent) → find q rows ≡ Some a → find r rows ≡ Some b → a.at ≡ b.at → a ≡ b
 one_row [] d q r a b f g e = absurd (none-some a f)
 one_row (x ∷ rows) d q r a b f g e = by (λ f g. one_row rows (IsDistinct-tail on_one_block x rows d) q r a b f g e) (q x) (r x) f g

@@ -83,7 +83,7 @@ module _ (v new : Versions) (k : VersionKey) (gone : (q : VersionKey) → versio
   pub left : (q : VersionKey) → has_version new q ≡ true → version new q ≡ version v q
   left q h = still q (λ z. true≢false (sym h ∙ sym (sym not_there ∙ ap (has_version new) z)))
 
-  -- what is seen in a view stays, where it was not this version
+  -- what is seen in a view stays if it was not this version
   pub same_latest : (f p n : ℕ) → ((t : ℕ) → latest (has_version v) f p n ≡ Some t → k ≡ key_of f p t → ⊥) → latest (has_version new) f p n ≡ latest (has_version v) f p n
   same_latest f p n other = by (latest (has_version v) f p n) refl
     where

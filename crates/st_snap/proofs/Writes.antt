@@ -73,7 +73,7 @@ module _ (blocks : ℕ) (cs : List Change) (h new : Volume) (k : IsHeld h) (a : 
   same_takes : (g q u : ℕ) → key_of f p t ≡ key_of g q u → t ≡ u
   same_takes g q u e = ap (λ (x : VersionKey). x.takes) e
 
-  -- versions of a page, where the new one is the last
+  -- versions of a page, if the new one is the last
   rises : ((u : ℕ) → t < u → has_version new.versions (key_of f p u) ≡ false) → (g q s u : ℕ) → s < u → has_version new.versions (key_of g q s) ≡ true → has_version new.versions (key_of g q u) ≡ true → number g q s < number g q u
   rises last g q s u l x y = ⊎_elim
       (λ e.
@@ -98,7 +98,7 @@ module _ (blocks : ℕ) (cs : List Change) (h new : Volume) (k : IsHeld h) (a : 
       (cases_Bool (same_key (key_of f p t) (key_of g q u))))
       (cases_Bool (same_key (key_of f p t) (key_of g q s)))
 
-  -- The live version is written over, where no image shares it.
+  -- The live version is written over if no image shares it.
   module _ (live : seen h 0 f p ≡ Some t) (alone : first_after h.kept t ≡ None) where
     over_last : IsLatest (has_version h.versions) f p h.next t
     over_last = latest_some (has_version h.versions) f p h.next t live
@@ -151,7 +151,7 @@ module _ (blocks : ℕ) (cs : List Change) (h new : Volume) (k : IsHeld h) (a : 
       rises = rises (λ u l. over_has (key_of f p u) ∙ false_from_ne_true (has_version h.versions (key_of f p u)) (λ x. let b : u < h.next = k.begun (key_of f p u) x in true≢false (sym x ∙ over_last.none u l b)));
     }
 
-  -- A version begins, where the page has none or an image shares the last one.
+  -- A version begins if the page has none or an image shares the last one.
   module _ (takes_now : t + 1 ≡ h.next) (fresh : has_version h.versions (key_of f p t) ≡ false) (shared : (u : ℕ) → seen h 0 f p ≡ Some u → is_some (first_after h.kept u) ≡ true) where
     not_key : (q : VersionKey) → has_version h.versions q ≡ true → key_of f p t ≡ q → ⊥
     not_key q x e = true≢false (sym x ∙ sym (sym fresh ∙ ap (has_version h.versions) e))

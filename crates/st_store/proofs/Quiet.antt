@@ -19,7 +19,7 @@ planned_not : (b : Bool) (byte : ℕ) → cond b Fails Works ≡ stops_at byte �
 planned_not true byte e = cc
 planned_not false byte e = cc
 
--- where no stop is set, none comes
+-- if no stop is set, none comes
 pub no_stop : (p : Plan) (byte : ℕ) → IsQuiet p → plans.outcome p ≡ stops_at byte → ⊥
 no_stop p byte q e =
     let other : Outcome = planned p.failing.items (raised p.calls) in

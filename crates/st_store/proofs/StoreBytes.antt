@@ -161,7 +161,7 @@ Within old new = IsWithin (MayLeave (recorded old.contents)) (MayLeave (recorded
 abbrev Later : InMemory → InMemory → Type 0
 Later old new = Time old.contents new.contents
 
--- what each call leaves where it changes no byte
+-- what each call leaves if it changes no byte
 same_within : (old new : InMemory) → recorded new.contents ≡ recorded old.contents → Within old new
 same_within old new e c left = subst (λ (h : Held). MayLeave h c) e left
 

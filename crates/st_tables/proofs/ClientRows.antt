@@ -211,7 +211,7 @@ module _ {V : Type 0} (key : V → Key) where
     within q [] h = tt
     within q (x ∷ xs) h = let a = and_parts (is_of_client key x) (list_all (is_of_client key) xs) h in within_by x (filter q xs) (q x) a.0 (within q xs a.1)
 
-    -- the client is one of those where a look finds it
+    -- the client is one of those if a look finds it
     pub looked_first : (rows : List V) (c : ℕ) → list_any (λ k. k == c) (map (first_of key) (filter (is_among key s p) rows)) ≡ looked rows c
     looked_first rows c = any_map_filter (first_of key) (is_among key s p) c rows ∙ any_same (λ x. is_among key s p x && (first_of key x == c)) (λ v. has_key key (key_on c s) v && p v) rows (λ x. turn ((key x).second == s) (p x) ((key x).first == c))
 

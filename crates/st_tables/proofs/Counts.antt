@@ -10,7 +10,7 @@ use Rattle.st_tables.specs.Tables.{same_key, has_key}
 use Rattle.st_tables.proofs.RowLists.{put_last}
 use Rattle.st_tables.proofs.Places.{key_is, same_is}
 
--- one more where the test is passed
+-- one more if the test is passed
 abbrev pub one_if : Bool → ℕ
 one_if b = if b then 1 else 0
 
@@ -102,7 +102,7 @@ module _ {V : Type 0} where
   missing_by p f x xs true h e = cc
   missing_by p f x xs false h e = ap (λ l. x ∷ l) (h e)
 
-  -- where none passes, nothing changes
+  -- if none passes, nothing changes
   pub missing_is_map : (p : V → Bool) (f : V → V) (xs : List V) → find p xs ≡ None → map (λ x. if p x then f x else x) xs ≡ xs
   missing_is_map p f [] h = refl
   missing_is_map p f (x ∷ xs) h = missing_by p f x xs (p x) (missing_is_map p f xs) h

@@ -46,7 +46,7 @@ module _ {V : Type 0} where
       (λ s. or_right (q e.1) (list_any q (values_of es)) (found_passes q i v es (sym (cond-false (i == e.0) (Some e.1) (row_at es i) s) ∙ f) t))
       (cases_Bool (i == e.0))
 
-  -- a row passes where a value does
+  -- a row passes if a value does
   pub any_value : (q : V → Bool) (n : ℕ) (es : List (ℕ × V)) → IsDistinct nat_eq (keys_of es) → ((i : ℕ) (v : V) → row_at es i ≡ Some v → i < n) → list_any q (listed n (row_at es)) ≡ list_any q (values_of es)
   any_value q n es d l =
       same_bools (list_any q (listed n (row_at es))) (list_any q (values_of es))

@@ -261,7 +261,7 @@ module _ {V : Type 0} (key : V → Key) where
   first_on n c [] e = cc
   first_on n c (x ∷ xs) e = first_by n c x xs (on n x) refl (first_on n c xs) e
 
-  -- a row on a number passes where one does that is looked for by a first number of the queue
+  -- a row on a number passes if one does that is looked for by a first number of the queue
 
   module _ (n : ℕ) (p : V → Bool) (rows : List V) where
     -- a look at one of the queue
@@ -414,7 +414,7 @@ module _ {V : Type 0} (key : V → Key) where
           let r = from xs (λ q h. s q (or_right (q x) (list_any q xs) h)) in
           λ i. cond (not (e i)) (x ∷ r i) (r i)
 
-  -- a row of a client passes where one does that is looked for by a number of the set
+  -- a row of a client passes if one does that is looked for by a number of the set
 
   module _ (f : ℕ) (p : V → Bool) (rows : List V) where
     -- a look at one of the set

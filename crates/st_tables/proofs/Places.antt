@@ -215,7 +215,7 @@ module _ {V : Type 0} (key : V → Key) (n : ℕ) (at : ℕ → Option V) (place
   pub there : (k : Key) (i : ℕ) → place k ≡ Some i → (v : V) × ((at i ≡ Some v) × (key v ≡ k))
   there k i e = row_there key (at i) k (t.told k i e)
 
-  -- a key has a place where it has a row
+  -- a key has a place if it has a row
   pub held : (k : Key) → is_some (place k) ≡ is_some (find (has_key key k) (listed n at))
   held k = from (place k) refl
     where
@@ -388,7 +388,7 @@ module _ {V : Type 0} (key : V → Key) (g : V → Bool) (k : Key) where
       let f : has_key key k x ≡ false = ⊎_elim (λ h. absurd (true≢false (sym (ap (λ z. same_key z (key x)) (key_is (key r) k q) ∙ ap (same_key k) (key_is (key x) k h) ∙ same_is k) ∙ a.0))) (λ h. h) (cases_Bool (has_key key k x)) in
       λ i. (f i && g x) || none_with r xs q a.1 i
 
-  -- where no two rows have one key, a row of the key passes where the one that is found does
+  -- if no two rows have one key, a row of the key passes if the one that is found does
   pub any_at_key : (rows : List V) → IsDistinct same_key (map key rows) → list_any (λ x. has_key key k x && g x) rows ≡ at_found g (find (has_key key k) rows)
   unfolding IsDistinct
   any_at_key [] d = refl

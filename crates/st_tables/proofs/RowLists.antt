@@ -107,7 +107,7 @@ module _ {V : Type 0} where
   last_by p x y xs true h e = cc
   last_by p x y xs false h e = ap (λ l. y ∷ l) (h e)
 
-  -- where none passes, the row goes last
+  -- if none passes, the row goes last
   pub put_last : (p : V → Bool) (x : V) (xs : List V) → find p xs ≡ None → put p x xs ≡ xs ++ x ∷ []
   unfolding put
   put_last p x [] e = refl
@@ -234,7 +234,7 @@ module _ {V : Type 0} where
   listed_empty zero f h = refl
   listed_empty (suc n) f h = λ i. listed_empty n f h i ++ option_to_list (h n i)
 
-  -- Where none passes, a filter of the others leaves all.
+  -- If none passes, a filter of the others leaves all.
 
   none_by : (q : V → Bool) (x : V) (xs : List V) (b : Bool) → (find q xs ≡ None → filter (λ v. not (q v)) xs ≡ xs) → cond b (Some x) (find q xs) ≡ None → cond (not b) (x ∷ filter (λ v. not (q v)) xs) (filter (λ v. not (q v)) xs) ≡ x ∷ xs
   none_by q x xs true h e = cc

@@ -2,7 +2,7 @@ ghost use Rattle.std.specs.Prelude.{◌≡◌};
 
 use st_rules::{LockRow, Waiter};
 
-/// By what a row is found: two numbers, as those of a client and a file.
+/// What a row is found by: two numbers, such as those of a client and a file.
 #[derive(Clone, Copy, Debug, PartialEq, Eq, Hash)]
 pub struct Key {
     pub first: u32,

@@ -62,7 +62,7 @@ pub fn push(queues: &mut Queues, alloc: Global, under: u32, number: u32) -> Resu
     }
 }
 
-/// A number leaves the queue under a number. Whether none is left where one was.
+/// A number leaves the queue under a number. Returns whether none is left, if one was there.
 fn leave_there(queues: &mut Queues, under: u32, number: u32) -> bool
     ensures left { Leaves under number (queue_in queues.old.entries) (queue_in queues.new.entries) }
     ensures empty { OnTrue result (queue_in queues.new.entries under ≡ []) }

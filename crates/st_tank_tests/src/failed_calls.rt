@@ -137,7 +137,7 @@ fn each_of(
     Ok(())
 }
 
-/// The calls are all: one more of each object does not come.
+/// These are all of the calls: no object has one more.
 fn no_more_calls(
     rt: &(impl Abort + AllocGlobal),
     case: &Case<'_>,

@@ -1,5 +1,5 @@
 -- Limits: those of the first two forms, and the rules that take a limit. Each of them says what the
--- rule of the same name in `st_rules` says where the state's own limit is this one.
+-- rule of the same name in `st_rules` says if the state's own limit is this one.
 use Rattle.std.specs.Prelude.{ℕ, ◌-◌, Bool, true, ◌&&◌, ◌||◌, ◌==◌, nat_lt, nat_le, if◌then◌else◌, List, ◌∷◌, length, take, Option, Some, None, is_some, Result, Ok, Err, ◌≡◌, ⊤}
 use Rattle.st_base.specs.declared.ids.ClientId.{ClientId}
 use Rattle.st_base.specs.declared.ids.Life.{Life}

@@ -131,7 +131,7 @@ removes t dir name ino None = refuses t 1
 removes t dir name ino (Some e) =
     if e.directory then removes_dir t dir name ino e else removes_file t dir name ino e
 
--- a directory is another one, or lies in it at this depth at most
+-- whether a directory is the first one, or lies in it at this depth at most
 unfoldable pub lies_in : Tree → ℕ → ℕ → ℕ → Bool
 lies_in t top zero dir = dir == top
 lies_in t top (suc depth) dir =

@@ -69,6 +69,6 @@ pub quiet_fresh : (k : Config) (clients servers disks blocks form : ℕ) (m : Wo
 quiet_fresh k clients servers disks blocks form m h e =
     subst IsQuiet (sym e) (record { none = refl; reached = reached_fresh k clients servers disks blocks form h })
 
--- what an event leaves is quiet, where its observations are taken away
+-- what an event leaves is quiet, if its observations are taken away
 pub quiet_after : RunsInParts → (old new : WorldTurn) (e : Event) (seen : List Observation) → IsQuiet old → is_event (length old.world.clocks) e ≡ true → world_step old.world e ≡ Ok (world_turn new.world seen) → new.seen ≡ [] → IsQuiet new
 quiet_after in_parts old new e seen q i h n = record { none = n; reached = reached_step in_parts old.world e (world_turn new.world seen) q.reached i h }

@@ -17,13 +17,13 @@ within [] i h e = absurd (omega arith)
 within (x ∷ xs) zero h e = absurd (cc)
 within (x ∷ xs) (suc i) h e = within xs i (omega (arith, h)) e
 
--- nothing takes an input where there is no client
+-- nothing takes an input if there is no client
 pub client_none : (w : World) (c : ClientId) (input : ClientInput) (o : Option WorldClient) → o ≡ None → quiet w ≡ at_client w c input o
 unfolding at_client
 client_none w c input None h = refl
 client_none w c input (Some site) h = absurd (cc)
 
--- nothing takes an input where there is no server
+-- nothing takes an input if there is no server
 pub server_none : (w : World) (s : ServerId) (input : ServerInput) (o : Option ServerNode) → o ≡ None → quiet w ≡ at_server w s input o
 unfolding at_server
 server_none w s input None h = refl

@@ -10,7 +10,7 @@ none_by : {A : Type 0} (xs : List A) (n : ℕ) (b : Bool) → nat_lt n (length x
 none_by xs n true q h = absurd (cc)
 none_by xs n false q h = slice_get_past xs n (ltb-false n (length xs) q)
 
--- where there is no place, nothing goes by the number
+-- if there is no place, nothing goes by the number
 pub index_none : {A : Type 0} (xs : List A) (n : ℕ) → None ≡ index_at n (length xs) → numbered xs n ≡ None
 index_none xs zero h = refl
 index_none xs (suc n) h = none_by xs n (nat_lt n (length xs)) refl h

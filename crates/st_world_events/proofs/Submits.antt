@@ -1,4 +1,4 @@
--- A command that is submitted, where there is such a client.
+-- A command that is submitted, if there is such a client.
 use Rattle.std.proofs.Common.{◌≡◌, ℕ, ◌+◌, length, refl, ap}
 use Rattle.std.specs.Prelude.{Option, Some, None}
 use Rattle.st_base.specs.declared.disk.BlockAt.{BlockAt}

@@ -1,4 +1,4 @@
--- The lives that one advance ends are one marking.
+-- Ending the lives that one advance ends is one marking.
 use Rattle.std.proofs.Common.{◌≡◌, ℕ, ◌+◌, List, [], ◌∷◌, refl, sym, ap, ◌∙◌}
 use Rattle.st_model.specs.Walks.{mark_from, marked_fate, with_fate}
 use Rattle.st_model.proofs.Markings.{drop_picked_is, mark_twice}
@@ -23,7 +23,7 @@ one_ended : (cs : List IssuedCommand) (e : LeaseLife) (log : List LogEntry) → 
 unfolding log_ended
 one_ended cs e log = drop_picked_is (is_of_life_over e) (cause_at_end cs e) log
 
--- all lives that end are one marking
+-- ending all of these lives is one marking
 pub all_ended : (cs : List IssuedCommand) (es : List LeaseLife) (log : List LogEntry) → log_ended_all cs es log ≡ mark_from (becomes_at cs es) 1 log
 unfolding log_ended_all
 all_ended cs [] log = nothing_ends cs 1 log

@@ -22,8 +22,8 @@ pub struct TankSettings {
     pub grain: u64,
 }
 
-/// What a step tells: the place in its frame of what is refused, and 1 if a life at a server is
-/// another one than before.
+/// What a step tells: the place in its frame of what is refused, and 1 if a life at a server has
+/// changed.
 #[repr(C)]
 #[derive(Clone, Copy)]
 pub struct TankClientStepped {

@@ -152,7 +152,7 @@ pub record ReadsLow (n : ℕ) (w : World) : Type 0 where
   pub low : w.tally.reads + pending w.clients ≤ n
   pub apart : (c : ClientId) (site : WorldClient) → site_of w c ≡ Some site → Apart (map server_at site.node.state.associations)
 
--- one client is another
+-- one client is replaced
 replaced : (n : ℕ) (w v : World) (c : ClientId) (old new : WorldClient) → site_of w c ≡ Some old → v.clients ≡ with_numbered c.0 new w.clients → v.tally.reads + ops_at new ≤ w.tally.reads + ops_at old + 1 →
     map server_at new.node.state.associations ≡ map server_at old.node.state.associations → ReadsLow n w → ReadsLow (n + 1) v
 replaced n w v c old new there cs more same h =

@@ -53,7 +53,7 @@ low_more m n w v site l g h =
     let x = h.asks in let y = h.starts in let z = h.commands in let e = g.commands in
     record { asks = omega (arith, x, l); starts = omega (arith, y, l); commands = omega (arith, z, e); associations = λ a i. few_more w v site.starts a g (h.associations a i) }
 
--- one client is another
+-- one client is replaced
 replaced : (m n : ℕ) (w v : World) (c : ClientId) (old new : WorldClient) → m ≤ n → site_of w c ≡ Some old → v.clients ≡ with_numbered c.0 new w.clients → Grown w v → SiteLow n v new → SitesLow m w → SitesLow n v
 replaced m n w v c old new l there cs g own h d site e = go (same_or_not d.0 c.0)
   where

@@ -36,7 +36,7 @@ every_reached Stands fresh one k clients servers d b form es w r =
 abbrev pub AtEvents : (ℕ → World → Type 0) → World → Type 0
 AtEvents fact w = fact w.tally.events w
 
--- where each event leads from so many to one more
+-- if each event leads from this many to one more
 pub counted_reached : (fact : ℕ → World → Type 0) → ((n : ℕ) (w : World) → fact n w → fact n (counted w)) → ((n : ℕ) → Cases (fact n) (fact (n + 1))) →
     ((k : Config) (clients servers d b form : ℕ) → IsHead k clients servers d b form → fact 0 (fresh_world k clients servers d b form)) → InEveryReached (AtEvents fact)
 unfolding fresh_world

@@ -25,7 +25,7 @@ pub record TheftsLow (n : ℕ) (w : World) : Type 0 where
 later : (m n : ℕ) (w v : World) → m ≤ n → v.servers ≡ w.servers → v.tally.stolen ≡ w.tally.stolen → TheftsLow m w → TheftsLow n v
 later m n w v l ss e h = record { low = let a = h.low in omega (arith, a, e, l); clients = λ s node f. h.clients s node (ap (λ zs. numbered zs s.0) (sym ss) ∙ f) }
 
--- one server is another
+-- one server is replaced
 replaced : (n : ℕ) (w v : World) (s : ServerId) (old new : ServerNode) → node_of w s ≡ Some old → v.servers ≡ with_numbered s.0 new w.servers → v.tally.stolen ≤ w.tally.stolen + 16 → FewClients new.state → TheftsLow n w → TheftsLow (n + 1) v
 replaced n w v s old new there ss more own h =
     record { low = let a = h.low in omega (arith, a, more); clients = λ d node e. go d node e (same_or_not d.0 s.0) }

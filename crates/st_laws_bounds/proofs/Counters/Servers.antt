@@ -44,7 +44,7 @@ same_nodes n w v e h s node f = h s node (ap (λ zs. numbered zs s.0) (sym e) �
 later_nodes : (n : ℕ) (w : World) → NodesLow n w → NodesLow (n + 1) w
 later_nodes n w h s node f = later n node (h s node f)
 
--- one server is another
+-- one server is replaced
 replaced : (n : ℕ) (w v : World) (s : ServerId) (old new : ServerNode) → node_of w s ≡ Some old → v.servers ≡ with_numbered s.0 new w.servers → NodeLow (n + 1) new → NodesLow n w → NodesLow (n + 1) v
 replaced n w v s old new there ss own h d node e = go (same_or_not d.0 s.0)
   where

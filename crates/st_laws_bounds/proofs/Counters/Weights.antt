@@ -159,7 +159,7 @@ low_more a b c d n v l s os ps r h =
 pub kept_says : (n v l : ℕ) (s : Option ClientSession) (os ps : List Output) → Kept n v l s os n v l s (os ++ ps)
 kept_says n v l s os ps = record { rises = rises_more os ps; low = λ a b c d h. low_more a b c d n v l s os (os ++ ps) (rises_more os ps) h }
 
--- the session is another one, which asks no further
+-- the session is replaced by one that asks no further
 pub kept_session : (n v l : ℕ) (s r : Option ClientSession) (os : List Output) → ((m : ℕ) → 1 ≤ m → AsksLow m s → AsksLow m r) → Kept n v l s os n v l r os
 kept_session n v l s r os f =
     record {

@@ -38,7 +38,7 @@ within_more m n s l h =
 next : (n : ℕ) → 1 + 32768 * n ≤ 1 + 32768 * (n + 1)
 next n = omega arith
 
--- one client is another
+-- one client is replaced
 replaced : (n : ℕ) (w v : World) (c : ClientId) (old new : WorldClient) → site_of w c ≡ Some old → v.clients ≡ with_numbered c.0 new w.clients →
     IsWithin (1 + 32768 * (n + 1)) new.node.state → SitesWithin n w → SitesWithin (n + 1) v
 replaced n w v c old new there cs own h d site e = go (same_or_not d.0 c.0)

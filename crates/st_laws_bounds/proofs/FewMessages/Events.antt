@@ -43,7 +43,7 @@ low_same m n w v l cs ss e h =
       commands = let z = h.commands in omega (arith, z, e, l);
     }
 
--- one client is another
+-- one client is replaced
 client_other : (n : ℕ) (w v : World) (c : ClientId) (old new : WorldClient) → site_of w c ≡ Some old → v.clients ≡ with_numbered c.0 new w.clients → v.servers ≡ w.servers → Few new.node.state →
     length v.commands ≤ 16468 + length w.commands → Low n w → Low (n + 1) v
 client_other n w v c old new there cs ss own more h =
@@ -59,7 +59,7 @@ client_other n w v c old new there cs ss own more h =
         subst (λ (y : WorldClient). Few y.node.state) s own
     go d site e (inr x) = h.clients d site (sym (numbered_other w.clients c.0 d.0 new (numbered_below w.clients c.0 old there).0 x) ∙ ap (λ zs. numbered zs d.0) (sym cs) ∙ e)
 
--- one server is another
+-- one server is replaced
 server_other : (n : ℕ) (w v : World) (s : ServerId) (old new : ServerNode) → node_of w s ≡ Some old → v.servers ≡ with_numbered s.0 new w.servers → v.clients ≡ w.clients → length new.state.locks.waiters ≤ n + 1 →
     length v.commands ≡ length w.commands → Low n w → Low (n + 1) v
 server_other n w v s old new there ss cs own same h =

@@ -33,7 +33,7 @@ put_length {A} p x (y ∷ ys) = go (p y) (put_length p x ys)
     go false (inl e) = inl (omega (arith, e))
     go false (inr e) = let a = e.0 in let b = e.1 in inr (omega (arith, a), omega (arith, b))
 
--- so there are at most 64 where there were, and where fewer others are
+-- so there are at most 64 if there were, and if there are fewer others
 pub put_few : {A : Type 0} (p : A → Bool) (x : A) (xs : List A) → length xs ≤ 64 → length (filter (λ y. not (p y)) xs) < 64 → length (put p x xs) ≤ 64
 put_few p x xs l f = go (put_length p x xs)
   where
@@ -41,7 +41,7 @@ put_few p x xs l f = go (put_length p x xs)
     go (inl e) = omega (arith, e, l)
     go (inr e) = let a = e.0 in let b = e.1 in omega (arith, a, b, f)
 
--- one member fewer where one of them is picked
+-- one member fewer if one of them is picked
 pub one_less : {A : Type 0} (p : A → Bool) (xs : List A) (x : A) → Has x xs → p x ≡ true → 1 + length (filter (λ y. not (p y)) xs) ≤ length xs
 one_less p [] x h e = absurd h
 one_less {A} p (y ∷ ys) x h e = go (p y) refl h (fewer ys) (λ i. one_less p ys x i e)

@@ -32,7 +32,7 @@ use Rattle.st_trace.proofs.Client.Operating.{operations}
 use Rattle.st_trace.proofs.Client.Requesting.{greets, requests}
 use Rattle.st_trace.proofs.Client.Walk.{each_lasts, reductions, writes}
 
--- What a rule leaves: at most so many more operations are pending, at most 64 pages are dirty where they were, and at most so many
+-- What a rule leaves: at most this many more operations are pending, at most 64 pages are dirty if they were, and at most this many
 -- commands and messages more were said.
 pub record Costs (k c m : ℕ) (os : List Operation) (ds : List DirtyPage) (out : List Output) (os2 : List Operation) (ds2 : List DirtyPage)
     (out2 : List Output) : Type 0 where
@@ -64,7 +64,7 @@ few_in_before k c m t u v x y =
     let e = x.ops in let f = x.commands in let g = x.messages in let h = y.ops in let i = y.commands in let j = y.messages in
     record { ops = omega (arith, e, h); dirty = λ z. y.dirty (x.dirty z); commands = omega (arith, f, i); messages = omega (arith, g, j) }
 
--- more is said, so many commands and messages of it
+-- more is said, this many commands and messages of it
 costs_say : (k c m i j : ℕ) (ops ops2 : List Operation) (dirty dirty2 : List DirtyPage) (out os : List Output) → length ops2 ≤ k + length ops →
     (length dirty ≤ 64 → length dirty2 ≤ 64) →
     weigh of_rise os ≡ i → weigh of_message os ≡ j → i ≤ c → j ≤ m → Costs k c m ops dirty out ops2 dirty2 (out ++ os)
@@ -242,7 +242,7 @@ few_in_requests now tick t = go (cp.requests now tick t) (requests now tick t)
         (as_many o w.own xs ys ∙ ap (λ (z : List Operation). length z) (sym k.there)) w.cut
     go _ (asking.KeepsAlive s f e) = few_in_sends t (_ ∷ []) refl refl
 
--- All passes at a server, where at most 20 operations are pending and at most 64 pages are dirty.
+-- All passes at a server, if at most 20 operations are pending and at most 64 pages are dirty.
 pub few_in_passes : (now : Stamp) (tick : Bool) (t : Turn) → length t.operations ≤ 20 → length t.here.store.pages.dirty ≤ 64 →
     C 0 4116 2 t (cp.passes now tick t)
 unfolding cp.passes

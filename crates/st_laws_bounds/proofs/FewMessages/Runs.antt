@@ -24,7 +24,7 @@ behind n w e sc is thefts low =
       messages = refl;
     }))
 
--- What is wanted of the events from a world on, where n events were before.
+-- What is wanted of the events from a world on, after n events.
 record Ends (most n : ℕ) (es : List Event) (w : World) : Type 0 where
   sends : SendsFew (16 * most + 17) es w
   commands : length (run es w).world.commands ≤ 16468 * (n + length es)

@@ -62,7 +62,7 @@ none_sent (outputs.Note x ∷ os) q = let k = none_sent os q in omega (arith, k)
 none_sent (outputs.Answer c a ∷ os) q = let k = none_sent os q in omega (arith, k)
 none_sent (outputs.Submit c a b ∷ os) q = let k = none_sent os q in omega (arith, k)
 
--- what more is said
+-- what else is said
 more_sent : (j : ℕ) (t u : ServerTurn) (os : List Output) → u.out ≡ t.out ++ os → weigh of_message os ≤ j → sends u ≤ j + sends t
 more_sent j t u os e k = let a = weigh_both of_message t.out os in let b = ap (weigh of_message) e in omega (arith, a, b, k)
 
@@ -182,7 +182,7 @@ few_in_sequence a b c d t u v x y = let e = x.waits in let f = x.sends in let g 
 few_in_weaker : (a b c d : ℕ) (t u : ServerTurn) → a ≤ c → b ≤ d → W a b t u → W c d t u
 few_in_weaker a b c d t u l m x = let e = x.waits in let f = x.sends in record { waits = omega (arith, e, l); sends = omega (arith, f, m) }
 
--- more is said, of which so much are messages, and there are no more waits
+-- more is said, of which this many are messages, and there are no more waits
 waits_say : (a b j : ℕ) (ws ws2 : List Waiter) (out os : List Output) → length ws2 ≤ a + length ws → weigh of_message os ≡ j → j ≤ b →
     Waits a b ws out ws2 (out ++ os)
 waits_say a b j ws ws2 out os l e m = let z = weigh_both of_message out os in record { waits = l; sends = omega (arith, z, e, m) }

@@ -1,4 +1,4 @@
--- A whole step of a client: at most 12 messages and 16,468 commands, changes and losses, where at most 20 operations are pending, at most 64 pages are dirty
+-- A whole step of a client: at most 12 messages and 16,468 commands, changes and losses, if at most 20 operations are pending, at most 64 pages are dirty
 -- at each server, and there are at most four servers.
 use Rattle.st_lemmas.proofs.Words
 use Words.{◌≡◌, ◌⊎◌, ℕ, suc, ◌+◌, ◌*◌, ◌≤◌, ◌<◌, Bool, true, false, List, [], ◌∷◌, refl, sym, subst, inl, inr, arith, if◌then◌else◌, length, leb-false}
@@ -33,7 +33,7 @@ record Goes (k c m n more : ℕ) (t u : ClientTurn) : Type 0 where
 one_more : (k n : ℕ) → k * suc n ≡ k + k * n
 one_more k n = grind arith
 
--- a rule that costs so much where at most 20 operations are pending and at most 64 pages are dirty
+-- a rule that costs this much if at most 20 operations are pending and at most 64 pages are dirty
 abbrev Rule : ℕ → ℕ → ℕ → (Turn → Turn) → Type 0
 Rule k c m rule = (t : Turn) → length t.operations ≤ 20 → length t.here.store.pages.dirty ≤ 64 → C k c m t (rule t)
 
@@ -106,7 +106,7 @@ said c m t op a h =
     let x = weigh_both of_rise t.out (outputs.Answer op a ∷ []) in let y = weigh_both of_message t.out (outputs.Answer op a ∷ []) in
     record { few = h; commands = omega (arith, x); messages = omega (arith, y) }
 
--- an ask is one more operation at its server, where fewer than 16 are pending
+-- an ask is one more operation at its server, if fewer than 16 are pending
 takes : (s : ServerId) (op : ℕ) (ask : Rattle.st_messages.specs.declared.ask.Ask.Ask) → Rule 1 0 0 (only_at s (cl.take_ask op ask))
 unfolding only_at
 takes s op ask t few low = go (is_at s t.here)

@@ -76,7 +76,7 @@ module _ (asked : ℕ → Option Ask) (v : World) (c : ClientId) (before : Clien
         told = told_both v sc.world.log p.more q.more ∙ ap (λ y. log_told v y q.more) p.told ∙ q.told;
       }
 
--- Where a client takes an input.
+-- When a client takes an input.
 module _ (k : Config) (count : ℕ) (past : List Step) (t : Traced) (e : Event) (sc : WorldTurn) (x : Taking) (all : AllStand k count t.world) (after : AllStand k count sc.world) (is : world_step t.world e ≡ Ok sc) (q : taken (counted t.world) e ≡ Some x) (tk : Takes (counted t.world) sc x) where
   abbrev asks : ℕ → ℕ → Option Ask
   asks = known (past ++ step t e sc ∷ [])

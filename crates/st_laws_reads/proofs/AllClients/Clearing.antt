@@ -158,7 +158,7 @@ follows_clear a s _ (AsksAgain _ now q e) h ino p c =
 clearing_kept_by_follows : (t : Turn) (s u : ClientSession) → t.here.session ≡ Some s → SessionChange t.here.store s u → K t (with_session u t)
 clearing_kept_by_follows t s u e c h = follows_clear t.here s u c (λ ino p k. h ino p (subst (λ o. Cuts o ino p) (sym e) k))
 
--- a file that is not cut is another one
+-- a file that is not cut differs from one that is
 apart : (t : Turn) (f ino : ℕ) (p : PageNo) → Uncut t f → Cuts t.here.session ino p → f ≡ ino → ⊥
 apart t f ino p u c i = u c.session c.is (c.cutting ∙ ap (λ n. Some n) (sym i))
 
@@ -187,7 +187,7 @@ changes_passing syncs asks now t v (Goes _ u _ c q r) h = changes_passing syncs 
 pub clearing_kept_by_passes : (now : Stamp) (tick : Bool) (t : Turn) → K t (cp.passes now tick t)
 clearing_kept_by_passes now tick t = changes_passing t.operations KeepsOrAsks now t (cp.passes now tick t) (passes_keep_or_ask now tick t)
 
--- Each change where a message is received, and such changes.
+-- Each change if a message is received, and such changes.
 change_received : (now : Stamp) (t u : Turn) (c : Change now t u) → IsCalm true now t u c → K t u
 change_received now t _ (client.Says _ o p) q h = h
 change_received now t _ (client.Operates _ os) q h = h

@@ -165,7 +165,7 @@ held_at s l [] f p h i = absurd i
 held_at s l (o ∷ os) f p h (inl e) = subst (CutHeld s l) (sym e) h.one
 held_at s l (o ∷ os) f p h (inr i) = held_at s l os f p h.rest i
 
--- free in a world is free where clients and clocks are the same
+-- free in a world is free if clients and clocks are the same
 free_there : (w v : World) (f : FileId) (p : PageNo) → v.clients ≡ w.clients → v.clocks ≡ w.clocks → CutFree v f p → CutFree w f p
 free_there w v f p cs ts h d site run =
     subst (λ xs. CutFreeOf f p site.node.state.config.lease (clock_in xs (client d)).0 site.node.state.associations) ts (h d site (record { there = ap (λ zs. numbered zs d) cs ∙ run.there; runs = run.runs }))

@@ -52,7 +52,7 @@ no_present : (c : ClientId) (o : LogOwner) (l now : ℕ) (xs : List Association)
 no_present c o l now [] g = record {}
 no_present c o l now (x ∷ xs) g = record { one = g x (inl refl); rest = no_present c o l now xs (λ b i. g b (inr i)) }
 
--- associations of one server are one
+-- associations of one server are the same
 same_association : (xs : List Association) → Apart xs → (a b : Association) → Has a xs → Has b xs → a.server ≡ b.server → a ≡ b
 same_association xs ap_ a b ha hb e = some_is (sym (found_there xs a ap_ ha) ∙ ap (λ s. find (is_at s) xs) e ∙ found_there xs b ap_ hb)
 
@@ -147,7 +147,7 @@ module _ (asks : ℕ → ℕ → Option Ask) (k : Config) (count : ℕ) (w : Wor
   pub own_copies : ClientCopies (asks d) (client d) w.log (clock_of w (nodes.Client (client d))) state
   own_copies = (copies d other runs.there).runs runs.runs
 
-  -- of no lock where something of another client is pending, or of a life that is over
+  -- no lock is held on a file of which something of another client, or of a life that is over, is pending
   pub unheld_for : (o : LogOwner) → Enqueues w.log o → ((a : Association) → Has a state.associations → is_of_life (client d) a.server a.life o ≡ true → ⊥) ⊎ Unit {0} → (b : Association) → Has b state.associations → Lasts state.config.lease now b.session → o.file.server ≡ b.server →
       (is_of_life (client d) b.server b.life o ≡ true → ⊥) → (held_in b.session o.file.ino).mode ≡ 0
   unheld_for o p x b hb lb sv not_own = go (status w p.entry)

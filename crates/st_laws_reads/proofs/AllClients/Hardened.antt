@@ -1,4 +1,4 @@
--- Where a write is done and its page was not changed since, the entries of the page in this life are hard.
+-- If a write is done and its page was not changed since, the entries of the page in this life are hard.
 use Rattle.st_lemmas.proofs.Words
 use Words.{◌≡◌, ℕ, Bool, true, false, ◌&&◌, List, [], ◌∷◌, ◌++◌, ◌==◌, Option, Some, None, refl, sym, ap, ◌∙◌, subst, option_map, unwrap_or, eqb-true, eq-eqb}
 use Words.{Command, ClientId, Life, PageNo, ServerId, Stamp, ClientInput, PageCommand, DiskCommand, Fate, LogEntry, LogOwner, DirtyPage, Carried, IssuedCommand}

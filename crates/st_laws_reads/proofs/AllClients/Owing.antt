@@ -1,4 +1,4 @@
--- What is owed where a client takes an input, from what is left of it.
+-- What is owed when a client takes an input, from what is left of it.
 use Rattle.st_lemmas.proofs.Words
 use Words.{◌≡◌, ℕ, Bool, true, false, List, [], ◌∷◌, Option, Some, None, Ok, refl, sym, ◌∙◌, subst, inl, inr, arith, if◌then◌else◌, length}
 use Words.{ClientId, Life, NodeId, PageNo, ServerId, Ask, Event, Body, ClientInput, Request, DiskCommand, LogEntry, IssuedCommand, SentMessage}
@@ -55,7 +55,7 @@ owed_all : (c : ClientId) (lives : ServerId → Life) (es : List LogEntry) (inpu
 owed_all c lives es input [] f h = record {}
 owed_all c lives es input (a ∷ xs) f h = record { one = f a (inl refl) h.one; rest = owed_all c lives es input xs (λ b i. f b (inr i)) h.rest }
 
--- where a remove is asked, nothing of its file is cached
+-- if a remove is asked, nothing of its file is cached
 cleared : (a : Association) → Cleared a → (s : ClientSession) (q : Request) (ino : ℕ) (p : PageNo) → a.session ≡ Some s → s.requests.asked ≡ Some q → asks_name q.body ≡ true → s.cutting ≡ Some ino → Nothing a.store ino p
 cleared a h s q ino p e asked name cutting = nothing_of a.store ino (page_no 0) z p (omega arith)
   where

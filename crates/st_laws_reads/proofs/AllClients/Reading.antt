@@ -107,7 +107,7 @@ module _ (past : List Step) (x : Step) where
   numbered_there w (events.Report k ok) y i a q = by_report (ev.with_disks (ev.disks_after w.disks (disks.done w.disks k ok)) w) k ok (issued_of w k) y q
   numbered_there w e y i a q = cc q
 
--- Where a client takes an input.
+-- When a client takes an input.
 module _ (k : Config) (count : ℕ) (past : List Step) (t : Traced) (e : Event) (sc : WorldTurn) (x : Taking) (all : AllStand k count t.world) (after : AllStand k count sc.world) (is : world_step t.world e ≡ Ok sc) (q : taken (counted t.world) e ≡ Some x) (tk : Takes (counted t.world) sc x) where
   abbrev st : Step
   st = step t e sc

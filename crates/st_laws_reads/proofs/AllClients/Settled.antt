@@ -82,7 +82,7 @@ module _ (asks : ℕ → ℕ → Option Ask) (k : Config) (count : ℕ) (w : Wor
   only_own [] f c = record {}
   only_own (e ∷ es) f c = record { one = λ t q. own_is e (own_pending e (f e (inl refl)) c.one t (ap is_pending q)); rest = only_own es (λ x i. f x (inr i)) c.rest }
 
-  -- where the page is not dirty
+  -- if the page is not dirty
   not_pending : dirty_of a.store.pages ino p ≡ None → (e : LogEntry) → Has e w.log → (e.change ≡ changes.Cut → e.fate ≡ fates.Hard) → touches (file_at a.server ino) p e ≡ true → is_pending e.fate ≡ false
   not_pending clean e i cut t = go (is_pending e.fate) refl
     where

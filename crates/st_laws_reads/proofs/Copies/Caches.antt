@@ -44,7 +44,7 @@ page_up held more now x ino p h r =
       reading = λ e. let m = r.reading e in omega (arith, m, h);
     }
 
--- a lower lock that still is one, where the page is not dirty
+-- a lower lock that still is one, if the page is not dirty
 page_down : (held less : ℕ) (now : List ℕ) (x : Store) (ino : ℕ) (p : PageNo) → 1 ≤ held → 1 ≤ less → dirty_of x.pages ino p ≡ None → PageOk held now x ino p →
     PageOk less now x ino p
 page_down held less now x ino p h l n r =
@@ -58,7 +58,7 @@ page_down held less now x ino p h l n r =
       reading = λ e. l;
     }
 
--- a lock that becomes shared, where the page is not dirty
+-- a lock that becomes shared, if the page is not dirty
 page_shared : (held : ℕ) (now : List ℕ) (x : Store) (ino : ℕ) (p : PageNo) → dirty_of x.pages ino p ≡ None → PageOk held now x ino p → PageOk 1 now x ino p
 page_shared zero now x ino p n r = page_up 0 1 now x ino p (omega arith) r
 page_shared (suc m) now x ino p n r = page_down (suc m) 1 now x ino p (omega arith) (omega arith) n r
@@ -234,7 +234,7 @@ module _ (ask_of : ℕ → Option Ask) (c : ClientId) (lives : ServerId → Life
   copies_kept_by_cut t (Some cut) = copies_kept_by_store ask_of c lives es t (pages.forget_from t.here.store cut.0 cut.1)
       (λ now j q r. forget_ok t.here.store cut.0 cut.1 _ now j q r) (λ j q e. e)
 
-  -- a page that was read: where it was being read, and what was found is what the log says
+  -- a page that was read: if it was being read, and what was found is what the log says
   pub copies_kept_by_filled : (t : Turn) (ino : ℕ) (p : PageNo) (bytes : List ℕ) → 1 ≤ (held_in t.here.session ino).mode →
       bytes ≡ content (logged c lives t.out es) (file_at t.here.server ino) p →
       Keeps ask_of c lives es t (with_store (record t.here.store { pages = pages.fill t.here.store.pages ino p bytes }) t)

@@ -757,7 +757,7 @@ module _ (ask_of : ℕ → Option Ask) (c : ClientId) (lives : ServerId → Life
           }) (λ j q e. e))
           (copies_kept_by_ended u x (pages.ended_as y ok v) (hard y e))
 
-  -- a command that failed, or a write that is done: where that makes its page clean, the entries of the page are hard
+  -- a command that failed, or a write that is done: if that makes its page clean, the entries of the page are hard
   pub copies_kept_by_finish : (number : ℕ) (result : Option (Option (Tag × List ℕ))) (t : Turn) → ((b : Tag × List ℕ) → result ≡ Some (Some b) → ⊥) →
       ((x y : PageCommand) → result ≡ Some None → pages.command_of t.here.store.commands number ≡ Some x →
       pages.command_of t.here.store.commands x.number ≡ Some y → pages.done_as y.kind (pages.version_of t.here.store.pages x.ino x.page) ≡ ends.Hard →

@@ -27,7 +27,7 @@ use Rattle.st_laws_reads.proofs.Copies.Caches.{copies_kept_by_granted}
 use Rattle.st_laws_reads.proofs.Copies.Receives.{Owed, copies_kept_by_like, copies_kept_by_effect, copies_kept_by_condemn, copies_kept_by_demand, copies_kept_by_lease, copies_kept_by_each}
 use Rattle.st_laws_reads.proofs.Copies.Passes.{with_it}
 
--- the lock of the file is held under a mode, where a reply on its extents counts
+-- the lock of the file is held under a mode, if a reply on its extents counts
 held_current : (c : locks.LockCache) (ino : ℕ) (asked : Body) → HaveModes c.rows → st.maps ino asked ≡ true → cr.is_current c asked ≡ true →
     1 ≤ (held_at (lock_of c ino)).mode
 held_current c ino (bodies.Map i g p) m f h = subst (λ j. 1 ≤ (held_at (lock_of c j)).mode) (eqb-true _ _ f) (held_of (lock_of c i) refl h)

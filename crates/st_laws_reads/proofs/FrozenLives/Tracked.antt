@@ -52,7 +52,7 @@ uncrashed c s (outputs.Note n ∷ os) row h = note n h (uncrashed c s os row)
     note n h f = f h
 
 module _ (P : LeaseLife → LogOwner → Type 0) where
-  -- where lives end that no crash ended
+  -- when lives end that no crash ended
   pub older : (w v : World) (rows : List LeaseLife) → v.ended ≡ w.ended ++ rows → ((row : LeaseLife) → Has row rows → row.crashed ≡ false) → (o : LogOwner) →
       OfCrashed P w o → OfCrashed P v o
   older w v rows e lost o f row q crashed = go (find p w.ended) refl

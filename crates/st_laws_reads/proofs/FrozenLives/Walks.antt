@@ -12,7 +12,7 @@ use Rattle.st_laws_reads.specs.FrozenLives.Frozen.{LivesStandAlone}
 use Rattle.st_laws_reads.proofs.FrozenLives.Frozen.{one, all, no_less}
 use Rattle.std.proofs.lemmas.Bool.{both_ways}
 
--- What the server has is the same, also where an association is replaced.
+-- What the server has is the same, also when an association is replaced.
 module _ (W : World) (c : ℕ) (A : Assoc) (row : A.s.row ≡ (W.at c).s.row) (up : A.s.up ≡ (W.at c).s.up) (grace : A.s.grace ≡ (W.at c).s.grace) where
   pub row_same : (d : ℕ) → (upd W.at c A d).s.row ≡ (W.at d).s.row
   row_same d = upd_all (λ d (a : Assoc). a.s.row ≡ (W.at d).s.row) W.at c A row (λ d n. refl) d

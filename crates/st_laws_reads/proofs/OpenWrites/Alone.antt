@@ -56,7 +56,7 @@ use Rattle.st_laws_pages.proofs.Causes.FlushSteps.{flushes_disks}
 use Rattle.st_laws_pages.proofs.Flush.Flushing.{pair_of}
 use Rattle.st_laws_reads.proofs.OpenWrites.Locked.{timely_end}
 
--- What is of other clients or of lives that ended is as late as it was.
+-- What belongs to other clients, or to lives that ended, is as late as it was.
 pub record StepsOn (w v : World) (c : ℕ) (old new : WorldClient) : Type 0 where
   pub there : site_of w (client c) ≡ Some old
   pub clocks : v.clocks ≡ w.clocks
@@ -159,7 +159,7 @@ module _ (w : World) (c : ℕ) (old site : WorldClient) (input : ClientInput) (t
     once_after : Once (map server_number mine.node.state.associations)
     once_after = (h.all.fates.lives.lives.sites (client c) mine own).once
 
-    -- two writes of one page that are outstanding at one association are one
+    -- two writes of one page that are outstanding at one association are the same
     one_only : (b : Association) → Has b mine.node.state.associations → (i j : ℕ) (x y : IssuedCommand) (f g : Tag) → numbered v.commands i ≡ Some x → numbered v.commands j ≡ Some y → x.client ≡ client c → y.client ≡ client c →
         ListedSince mine.starts b x f → ListedSince mine.starts b y g → f.file ≡ g.file → f.page ≡ g.page → i ≡ j
     one_only b here i j x y f g xi yi xc yc l m ef ep =

@@ -1,4 +1,4 @@
--- A client's crash: the lives that it ends are frozen, where a write of them is not reported, and those that were frozen stay so.
+-- A client's crash: the lives that it ends are frozen, if a write of them is not reported, and those that were frozen stay so.
 use Rattle.st_lemmas.proofs.Words
 use Words.{◌≡◌, ℕ, ◌≤◌, ◌⊎◌, true, List, Option, Some, None, refl, sym, ap, ◌∙◌, subst, inl, inr, arith, option_map, BlockAt, Tag, Stamp, Ask, LogOwner}
 use Words.{DirtyPage, IssuedCommand, LeaseLife}

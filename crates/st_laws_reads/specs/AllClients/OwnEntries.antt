@@ -19,8 +19,8 @@ use Rattle.st_laws_reads.specs.AllClients.Events.{FrozenStandAlone}
 use Rattle.st_laws_reads.specs.AllClients.Law.{Running}
 use Rattle.st_laws_reads.specs.AllClients.World.{CopiesHold}
 
--- In a world where everything holds and the copies hold, where what is pending of lives that are over stands alone and cuts are hard: nothing is pending of a
--- page that a client that runs has not dirty, while it has a lock on the file under a lease that is not over.
+-- In a world in which everything and the copies hold, what is pending of lives that are over stands alone, and cuts are hard: nothing is pending of a
+-- page that is not dirty at a client that runs, while that client has a lock on the file under a lease that is not over.
 abbrev pub LockedPagesAreSettled : Type 0
 LockedPagesAreSettled =
     (asks : ℕ → ℕ → Option Ask) (k : Config) (count : ℕ) (w : World) (d : ℕ) (site : WorldClient) (a : Association) (ino : ℕ) (p : PageNo) →

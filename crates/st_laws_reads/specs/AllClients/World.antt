@@ -18,7 +18,7 @@ abbrev pub AllThere : World → List Association → Type 0
 AllThere w [] = Unit {0}
 AllThere w (a ∷ xs) = record { one : There w a.server; rest : AllThere w xs }
 
--- What holds of a client of the world: its servers are there; its copies hold where it runs; and where it does not, it rests.
+-- What holds of a client of the world: its servers are there; its copies hold if it runs; and if it does not, it rests.
 pub record SiteHolds (asked_as : ℕ → Option Ask) (w : World) (c : ℕ) (site : WorldClient) : Type 0 where
   pub servers : AllThere w site.node.state.associations
   pub runs : site.node.running ≡ true → ClientCopies asked_as (client c) w.log (clock_of w (nodes.Client (client c))) site.node.state

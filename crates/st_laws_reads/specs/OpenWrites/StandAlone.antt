@@ -23,7 +23,7 @@ pub record OfLife (c : ℕ) (a : Association) (x : IssuedCommand) : Type 0 where
   pub server : x.server ≡ a.server
   pub life : x.life ≡ a.life
 
--- In a world where everything holds: a write of a client's present life that may have its effect leaves no other client that runs a lock.
+-- In a world in which everything holds: a write of a client's present life that may have its effect leaves no other client that runs a lock.
 abbrev pub OpenWritesStandAlone : Type 0
 OpenWritesStandAlone =
     (asked_as : ℕ → Option Ask) (k : Config) (count : ℕ) (w : World) (c d : ℕ) (site other : WorldClient) (a : Association) (n : ℕ)

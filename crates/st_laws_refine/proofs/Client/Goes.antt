@@ -190,7 +190,7 @@ module _ (k : Config) (sv : Beside) (now : ℕ) (hs : List Msg) where
         };
       }
 
-  -- something new is written, under an exclusive lock and where no cut is out
+  -- something new is written, under an exclusive lock and if no cut is out
   pub works_goes : (t : Turn) (s : ClientSession) (x : Store) (ino : ℕ) → ((i : ℕ) → busy_in x i ≡ true → (busy_in t.here.store i ≡ true) ⊎ (i ≡ ino)) → 2 ≤ (held_at (lock_of s.locks ino)).mode → is_file ino s.cutting ≡ false →
       Goes k sv now hs (with_session s t) (with_store x (with_session s t))
   works_goes t s x ino h mode free =

@@ -217,7 +217,7 @@ need_some : (a : Ask) → 1 ≤ number_of (cp.need a)
 need_some (asks.Read f p) = omega arith
 need_some a = omega arith
 
--- what an operation asks: a plain request, and where it cuts a file that file is idle
+-- what an operation asks: a plain request, and if it cuts a file, that file is idle
 record Well (x : Store) (w : Wanted) : Type 0 where
   pub plain : is_plain w.body ≡ true
   pub wishes : Wishes w.body

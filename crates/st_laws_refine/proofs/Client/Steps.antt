@@ -63,7 +63,7 @@ passed own rule f (x ∷ xs) T p =
     }
 
 module _ (k : Config) (sv : Beside) (now : ℕ) (hs : List Msg) (own : ServerId) where
-  -- other outputs, where nothing was said to this server
+  -- other outputs, if nothing was said to this server
   ready_at : (T U : ClientTurn) (a : Association) (N : List Msg) → U.state.config ≡ T.state.config → a.server ≡ own → ((N : List Msg) → Said T.state.id.0 own T.out N → Said U.state.id.0 own U.out N) → Ready k now hs (enter T a) N → Ready k now hs (enter U a) N
   ready_at T U a N c e s r =
       record {
@@ -194,7 +194,7 @@ module _ (k : Config) (sv : Beside) (now : Stamp) (hs : List Msg) (own : ServerI
       result_then k sv now.0 hs own sv b U _ M (input_goes T input b M pb rb (subst (λ (i : ClientId). Comes own i.0 input hs) (sym is) c))
       (λ d L pd rd. each_goes_at k sv now.0 hs own (cp.passes now (cl.is_tick input)) (λ t. leaves (passes_goes (cl.is_tick input) t).frame) U d L pd rd (λ t q. passes_goes (cl.is_tick input) t))
 
-  -- a life is lost only where its lease is over
+  -- a life is lost only if its lease is over
   if_losses : (P : ServerId → Life → Type 0) (b : Bool) (T U : ClientTurn) → (b ≡ true → Losses P T.out) → (b ≡ false → Losses P U.out) → Losses P (if b then T else U).out
   if_losses P true T U p q = p refl
   if_losses P false T U p q = q refl
@@ -254,7 +254,7 @@ step_moves k sv now hs own s input a N le p pos kept c g =
 pub client_steps_are_moves : ClientStepsAreMoves
 client_steps_are_moves k sv now hs own s input a N le p pos kept c g = step_moves k sv now hs own s input a N le p pos kept c g
 
--- a life is lost only where its lease is over; of the machine's settings and server nothing is needed
+-- a life is lost only if its lease is over; of the machine's settings and server nothing is needed
 any_config : Config
 any_config = record { lease = 0; num = 0; den = 0; wait = 0; grain = 0 }
 

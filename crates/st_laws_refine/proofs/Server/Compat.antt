@@ -198,7 +198,7 @@ compatible_after_granted l c life ino mode want free k =
         ap (λ m. conflicts r.mode m) (mode_is e i q y g.0) ∙ against d r (λ z. ne (sym z ∙ g.1)) (subst (λ i. row_of l d i ≡ Some r) g.2 (sym f ∙ x))
     both d e i r q ne x y (inr f) (inr g) = k.fits d e i r q ne (sym f ∙ x) (sym g ∙ y)
 
--- rows that are installed where none conflicts
+-- rows that are installed if none conflicts
 none_first : (l : Locks) (c : ClientId) (rest : Option (ℕ × ClientId)) (ino : ℕ) (o : Option ClientId) → conflict_or rest ino o ≡ None → (rest ≡ None) × (o ≡ None)
 unfolding conflict_or
 none_first l c rest ino None e = (e, refl)

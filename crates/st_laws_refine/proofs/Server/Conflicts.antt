@@ -57,7 +57,7 @@ thefts_grace : (n : ServerState) (now : Stamp) → (thefts (turn n []) now).stat
 unfolding thefts
 thefts_grace n now = steals_grace (authority.over n.authority now) _
 
--- where no timer is over, nothing is stolen
+-- if no timer is over, nothing is stolen
 no_thefts : (n : ServerState) (now : Stamp) → authority.over n.authority now ≡ [] → thefts (turn n []) now ≡ with_authority (authority.still_running n.authority now) (turn n [])
 unfolding thefts steal_each
 no_thefts n now e = ap (λ cs. steal_each cs (with_authority (authority.still_running n.authority now) (turn n []))) e

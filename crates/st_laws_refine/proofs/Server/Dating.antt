@@ -227,7 +227,7 @@ module _ (w : World) (s : ℕ) (n : ServerState) (now : Stamp) (i : ServerInput)
   abbrev D : ServerTurn → Type 0
   D t = DatingTurn w s i now ts t
 
-  -- one more output that isn't a timer's, where the rest of what this speaks of is as it was
+  -- one more output that isn't a timer's, if the rest of what this speaks of is as it was
   said : (t : ServerTurn) (o : Output) → timers_by w S (o ∷ []) (timers_by w S t.out ts) ≡ timers_by w S t.out ts → ((m : Message) → outputs.Send m ≡ o → may_date m.header.number m.body ≡ true → AnswersRequest s i t.state.authority m) → D t → D (record t { out = t.out ++ o ∷ [] })
   said t o e g d = record {
     id = d.id;
@@ -237,7 +237,7 @@ module _ (w : World) (s : ℕ) (n : ServerState) (now : Stamp) (i : ServerInput)
     sends = sent_one s i t.state.authority t.out o d.sends g;
   }
 
-  -- a timer starts where nothing was sent yet
+  -- a timer starts, if nothing was sent yet
   starts_timer : (t : ServerTurn) (c : ClientId) → NoSends t.out → authority.may_ack t.state.authority c ≡ true → D t → D (suspect_client t now c)
   unfolding suspect_client
   starts_timer t c quiet free d = record {

@@ -182,7 +182,7 @@ module _ (k : Config) (c s : ℕ) (ended : ℕ → ℕ) where
   client_same : (u v : World) → SameParts u v → client_in u c s ended ≡ client_in v c s ended
   client_same u v p = λ j. client_at_site (record u { clients = sym p.clients j; clocks = sym p.clocks j; config = sym p.config j }) c s ended (numbered (sym p.clients j) c)
 
-  -- where the server runs, the pair is the association that its rules speak of
+  -- if the server runs, the pair is the association that its rules speak of
   pub pair_runs : (w : World) (node : ServerNode) (x : Ghost) → node.running ≡ true → pair c s ended w node x ≡ at (client_in w c s ended) (client c) (clock_of w (nodes.Server (server s))) node.state x
   pair_runs w node x runs = λ j. record { c = client_in w c s ended; s = half_of (client c) (clock_of w (nodes.Server (server s))) (runs j) node.state x; net = x.net }
 

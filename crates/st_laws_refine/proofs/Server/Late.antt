@@ -48,7 +48,7 @@ view_clock : (running : Bool) (ended : ℕ → ℕ) (now : Stamp) (o : Option As
 view_clock running ended now None = refl
 view_clock running ended now (Some a) = refl
 
--- the client's clock, where there is such a client
+-- the client's clock, if there is such a client
 pub clock_in : (w : World) (c s : ℕ) (ended : ℕ → ℕ) (site : WorldClient) → site_of w (client c) ≡ Some site → (client_in w c s ended).clock ≡ (clock_of w (nodes.Client (client c))).0
 clock_in w c s ended site e = ap (λ o. (client_at_site w c s ended o).clock) e ∙ view_clock site.node.running ended (clock_of w (nodes.Client (client c))) (association_with site.node.state (server s))
 

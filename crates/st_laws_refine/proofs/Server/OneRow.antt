@@ -112,7 +112,7 @@ pub acquired_once : (g : Bool) (l : Locks) (c : ClientId) (life : Life) (ino : �
 acquired_once g l c life ino mode v (AtOnce off w f nobody) o = granted_once l c life ino mode o
 acquired_once g l c life ino mode v (InTurn w) o = queued_once l c life ino mode o
 
--- rows that are installed where the client had none, each file once
+-- rows that are installed if the client had none, each file once
 installed_rows : (c : ClientId) (life : Life) (rs : List (ℕ × GrantNo × Mode)) → are_once on_same_file rs ≡ true → are_once same_row (map (installed c life) rs) ≡ true
 installed_rows c life [] e = once_none same_row
 installed_rows c life (r ∷ rs) e =

@@ -129,7 +129,7 @@ module _ (k : Config) (s : ℕ) (ended : ℕ → ℕ → ℕ) where
     pub quiet : Calm node.state → list_all is_no_conflict sc.seen ≡ true
     pub late : (t : Traced) → t.world ≡ w → DatesKnown w t.history.dates → ((c : ℕ) → DatesShown k.lease c s t.history.dates (G c).net) → list_all (is_late t) sc.seen ≡ true
 
-  -- no conflict is observed where none is put out
+  -- no conflict is observed if none is put out
   says_calm : (o : Output) (sc : WorldTurn) → AllCalm (o ∷ []) → list_all is_no_conflict sc.seen ≡ true → list_all is_no_conflict (server_says sc (server s) o).seen ≡ true
   unfolding server_says server_notes sends cuts
   says_calm (outputs.Send m) sc a h = list_all-append is_no_conflict sc.seen _ ∙ and_both _ _ h (and_both _ true (ap not a.one) refl)

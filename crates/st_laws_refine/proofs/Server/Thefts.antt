@@ -321,7 +321,7 @@ module _ (k : Config) (cl : net.Client) (d : ℕ) (now : Stamp) where
         kept = subst (λ o. Kept u.stable.epoch.0 o x.net) (sym st.session) (kept_ended u.stable.epoch.0 (sessions.session_of n.sessions (client d)) x.net);
       }
 
-  -- and where none of this client is over
+  -- and if none of this client is over
   no_theft : (t : ServerTurn) (x : Ghost) → Ready d k.wait now t x → ((y : Suspect) → Has y t.state.authority.suspects → y.client.0 ≡ d → is_over t.state.authority.wait now y ≡ false) → Result k cl d now t (thefts t now) x
   unfolding thefts still_running
   no_theft t x r h =

@@ -31,7 +31,7 @@ pub record Place (own : ServerId) (list : List Association) (a : Association) : 
   pub apart_before : Apart own before
   pub apart_after : Apart own after
 
--- a client's turn, seen from one association; what holds beside it is another one if a life ended
+-- a client's turn, seen from one association; what holds beside it changes if a life ended
 pub record ClientResult (k : Config) (b d : Beside) (now : ℕ) (hs : List Msg) (own : ServerId) (a : Association) (U : ClientTurn) (N : List Msg) : Type 0 where
   pub last : Association
   pub net : List Msg

@@ -107,7 +107,7 @@ module _ (M : List Message) (c : ClientId) (Known : ℕ → Ask → Type 0) (Bef
 
     module _ (fresh : (sv : ServerId) (life epoch number op : ℕ) → ((m : Message) → Has m M → Keyed c sv life epoch number m → ⊥) →
         Before sv life epoch number op) where
-      -- a new request, where none is outstanding
+      -- a new request, if none is outstanding
       whole_after_ask : (t : Turn) (x : ClientSession) (now : Stamp) (body : Body) (cutting : Option ℕ) → x.requests.asked ≡ None →
           (CIn M c Known Before Done s B out0) t x → ((o : Operation) → Has o t.operations → cs.is_asked t.here.server o ≡ true → AsksFor o.ask body) →
           OneWaits t.here.server t.operations → (W M c Known Before Done s B out0) (cp.ask t x now body cutting)
@@ -176,7 +176,7 @@ module _ (M : List Message) (c : ClientId) (Known : ℕ → Ask → Type 0) (Bef
           given : (1 ≤ q.number) × (q.number < x.requests.next)
           given = subst (Given x.requests.next) e w.base.numbers.counts.1
 
-      -- What an operation asks is its own request, where it is sent with it.
+      -- What an operation asks is its own request, if it is sent with it.
       want_is : (t : Turn) (x : ClientSession) (now : Stamp) (a : Ask) (w : cp.Wanted) → cp.want t x now a ≡ Some w → w.own ≡ true → AsksFor a w.body
       unfolding cp.want cp.want_at cp.want_on cp.want_by cp.want_under cp.want_held cp.want_cut cp.want_map cp.want_block cp.want_lock cp.want_name cs.meant
       want_is t x now a w e f = go a e
@@ -236,7 +236,7 @@ module _ (M : List Message) (c : ClientId) (Known : ℕ → Ask → Type 0) (Bef
           go (asks.Sync f) q = cc
           go a q = at a (cs.file_of a) refl q
 
-      -- The operations once the first of them asks: those before, and that one sent where the request is its own.
+      -- The operations once the first of them asks: those before, and that one sent if the request is its own.
       record AskingOk (t : Turn) (os : List Operation) (a : cp.Asking) : Type 0 where
         pub from : (o : Operation) → Has o a.operations →
             (p : Operation) × Has p os × (o.op ≡ p.op) × (o.ask ≡ p.ask) × ((o ≡ p) ⊎ (cs.is_of t.here.server p ≡ true))

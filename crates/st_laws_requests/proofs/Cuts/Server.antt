@@ -198,7 +198,7 @@ module _ (Q : Body → Bool) (kind : Kind Q) (s : ServerId) (e : Epoch) (F : Lis
       same : (x : Message) → outputs.Send x ≡ outputs.Send m → x ≡ m
       same x q = cc
 
-  -- The same, where the names of the server are these.
+  -- The same, if the names of the server are these.
   module _ (n : Names) where
     pub record O (t : ServerTurn) : Type 0 where
       pub acks : Acks t

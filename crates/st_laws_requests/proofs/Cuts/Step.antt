@@ -62,7 +62,7 @@ module _ (M : List Message) (c : ClientId) (Known : ℕ → Ask → Type 0) (Bef
   abbrev RuleOk : (Turn → Turn) → Type 0
   RuleOk rule = (s : ServerId) (B : List Operation) (out0 : List Output) (t : Turn) → WOf s B out0 t → WOf s B out0 (rule t)
 
-  -- an association with another server than that of the rule
+  -- an association with a server other than that of the rule
   elsewhere : (t : ClientTurn) (a : Association) (u : Turn) → WOf a.server t.state.operations t.out u → (b : Association) → (b.server.0 ≡ a.server.0 → ⊥) →
       At t.state.operations t.out b → At u.operations u.out b
   elsewhere t a u w b ne k =

@@ -172,7 +172,7 @@ module _ (past : List Step) (t : Traced) (e : Event) (d : CutsHold past t) where
         names = no_names sc n;
       }
 
-  -- A client at its place is another one, and no message is sent.
+  -- A client at its place is replaced, and no message is sent.
   client_placed : (c : ClientId) (old new : WorldClient) (sc : WorldTurn) → ((c : ClientId) → ask_in c e ≡ None) → site_of t.world c ≡ Some old → sc.world.clients ≡ with_numbered c.0 new t.world.clients → sc.world.servers ≡ t.world.servers → messages sc.world ≡ messages t.world →
       ((past2 : List Step) → ClientOk past (messages t.world) c old → asks_of past2 c ≡ asks_of past c → ClientOk past2 (messages t.world) c new) → NoAnswers sc.seen → Next sc
   client_placed c old new sc q at cs ss ms k n =
@@ -196,7 +196,7 @@ module _ (past : List Step) (t : Traced) (e : Event) (d : CutsHold past t) where
       it x y (inl z) = subst (ClientOk past2 (messages sc.world) x) (sym z.1) (subst (λ n. ClientOk past2 (messages sc.world) (record { 0 = n }) new) (sym z.0) its)
       it x y (inr z) = client_more sc x y (λ m h. subst (Has m) (sym ms) h) (λ m h. inl (subst (Has m) ms h)) (q x) z.1 (d.clients x y z.1)
 
-  -- A server at its place is another one, and no message is sent.
+  -- A server at its place is replaced, and no message is sent.
   server_placed : (s : ServerId) (old new : ServerNode) (sc : WorldTurn) → ((c : ClientId) → ask_in c e ≡ None) → node_of t.world s ≡ Some old → sc.world.servers ≡ with_numbered s.0 new t.world.servers → sc.world.clients ≡ t.world.clients → messages sc.world ≡ messages t.world →
       ((past2 : List Step) (ms : List Message) → old.state.id ≡ s → ServerOk past2 ms s new) → NoAnswers sc.seen → Next sc
   server_placed s old new sc q at ss cs ms k n =

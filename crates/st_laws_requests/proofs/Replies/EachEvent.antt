@@ -217,7 +217,7 @@ module _ (t : World) (e : Event) (B : ServerInput → Type 0) (ticks_one : (s : 
   unfolding w
   event_brings sc f h = let z = step_happens t e sc h in subst (λ (x : WorldTurn). R x.world) (sym z.1) (happens e refl f)
 
--- An event, where a message that a server takes was sent.
+-- An event, when a message that a server takes was sent.
 module _ (t : World) (R : World → Type 0)
     (alike : (v : World) → v.clients ≡ t.clients → v.servers ≡ t.servers → messages v ≡ messages t → R v)
     (client_step : (v : World) → v.clients ≡ t.clients → v.servers ≡ t.servers → (c : ClientId) (i : ClientInput) (site old : WorldClient) → site.node ≡ old.node → site.node.running ≡ true → site_of t c ≡ Some old → Comes t i →

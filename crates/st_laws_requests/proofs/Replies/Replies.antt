@@ -47,7 +47,7 @@ module _ (past : List Step) (t : Traced) (d : RepliesHold past t) where
   still : (v : World) → v.servers ≡ t.world.servers → messages v ≡ messages t.world → RepliesSay v
   still v ss ms s n at m h r = subst (λ l. Says l s n m) (sym ms) (d.replies s n (ap (λ z. numbered z s.0) (sym ss) ∙ at) m (subst (Has m) ms h) r)
 
-  -- A server at its place is another one, and no message is sent.
+  -- A server at its place is replaced, and no message is sent.
   server_placed : (s : ServerId) (old new : ServerNode) (v : World) → node_of t.world s ≡ Some old → v.servers ≡ with_numbered s.0 new t.world.servers → messages v ≡ messages t.world →
       ((m : Message) → Says (messages t.world) s old m → Says (messages t.world) s new m) → RepliesSay v
   server_placed s old new v at ss ms k x n i m h r = subst (λ l. Says l x n m) (sym ms) (it (set_cases t.world.servers s.0 x.0 old new n at (ap (λ z. numbered z x.0) (sym ss) ∙ i)))

@@ -117,7 +117,7 @@ abbrev AskingAt : Turn → ClientSession → Stamp → List Operation → Option
 AskingAt t s now os None = Unit {0}
 AskingAt t s now os (Some a) = Asking t s now os a
 
--- it asks where it may
+-- it asks if it may
 record Asks (t : Turn) (s : ClientSession) (now : Stamp) (o : Operation) (w : cp.Wanted) : Type 0 where
   pub may : cp.may_ask t s o ≡ true
   pub wants : Wants t s now o.ask w

@@ -115,7 +115,7 @@ module _ (n : ServerState) (now : Stamp) (i : ServerInput) (P : ServerTurn → T
   granted_state [] t = refl
   granted_state (x ∷ xs) t = granted_state xs _
 
-  -- a grant, where the table is this one
+  -- a grant, if the table is this one
   abbrev GrantAt : ServerTurn → Waiter → Locks → Type 0
   GrantAt u w l =
       grace.is_on u.state.grace now ≡ false → Has w l.waiters → find (locks.is_wait_on w.ino) l.waiters ≡ Some w →
@@ -227,7 +227,7 @@ module _ (n : ServerState) (now : Stamp) (i : ServerInput) (P : ServerTurn → T
         of_client = of_client;
       }
 
-  -- a demand, where the table is this one
+  -- a demand, if the table is this one
   abbrev DemandAt : ServerTurn → Waiter → LockRow → RowDemand → Locks → Type 0
   DemandAt u w r x l =
       find (locks.is_wait_on w.ino) l.waiters ≡ Some w → Has r.client (to_demand l (suspects_in u) w) → r.ino ≡ w.ino → row_of l r.client r.ino ≡ Some r →

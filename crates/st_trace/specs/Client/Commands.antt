@@ -22,7 +22,7 @@ pub data Takes (op : ℕ) (ask : Ask) (t : Turn) : Turn → Type 0 where
 abbrev pub without : PageCommand → Turn → Turn
 without c t = cl.with_commands (pages.without_command c.number t.here.store.commands) t
 
--- the pages are others
+-- the pages change
 abbrev pub with_pages : pages.Pages → Turn → Turn
 with_pages ps t = with_store (record t.here.store { pages = ps }) t
 
@@ -34,7 +34,7 @@ pub record IsOutstanding (number : ℕ) (t : Turn) (c : PageCommand) : Type 0 wh
 -- How the end of a command is taken: with what was read, or none, or as a failure.
 pub data Finishes (number : ℕ) (result : Option (Option (Tag × List ℕ))) (t : Turn) : Turn → Type 0 where
   IsUnknown : pages.command_of t.here.store.commands number ≡ None → Finishes number result t t
-  -- a result of another kind than the command
+  -- a result whose kind is not that of the command
   IsOfOtherKind : (c : PageCommand) (block : Option (Tag × List ℕ)) → IsOutstanding number t c → result ≡ Some block → cl.is_result_of c.kind block ≡ false →
       Finishes number result t t
   Fills : (c : PageCommand) (block : Tag × List ℕ) → IsOutstanding number t c → c.kind ≡ io.Read → result ≡ Some (Some block) →
