@@ -17,6 +17,7 @@ use Rattle.st_world_parts.specs.Clocks.{is_step}
 use Rattle.st_world_events.specs.Advances.{IsAccepted}
 use Rattle.st_world_events.specs.Readiness.{IsMet, IsReady}
 use Rattle.st_world.specs.AdvanceTests.{IsLaid, IsTimed}
+use Rattle.st_world.specs.Counters.{CountersHaveRoom}
 
 neither : {A : Type 0} (o rest : Option A) → option_or o rest ≡ None → (o ≡ None) × (rest ≡ None)
 neither None rest h = (refl, h)
@@ -94,6 +95,6 @@ met w (events.Crash n) l i h = tt
 met w (events.Start n) l i h =
     same_running w n ∙ stands_not (is_running w n) (refusals.Running n) (neither (no_node w n) (still_running w n) h).1
 
--- what is ready stays so, one event later in the count
-pub still_ready : (w : World) → IsReady w → IsReady (counted w)
-still_ready w r = record { some = r.some; few = r.few; clients = r.clients; clocks = r.clocks; reads = r.reads; stolen = r.stolen }
+-- a world whose counters have room is ready, one event later in the count
+pub ready : (w : World) → IsLaid w → CountersHaveRoom w → IsReady (counted w)
+ready w l r = record { some = l.some; few = l.few; clients = l.clients; clocks = l.clocks; reads = r.reads; stolen = r.stolen }

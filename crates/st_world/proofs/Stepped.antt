@@ -1,15 +1,12 @@
 -- What a step of the world counts, and what it leaves in number.
 use Rattle.st_lemmas.proofs.Words
-use Words.{◌≡◌, true, List, length, refl, sym, ap, ◌∙◌, Option, Some, None, Result, Ok, Err, IfOk, OnErr, Event, Observation, WorldRefusal}
+use Words.{◌≡◌, true, List, length, refl, sym, ap, ◌∙◌, Option, Some, None, Ok, Event, Observation, WorldRefusal}
 use Words.Admissible.{refusal}
 use Words.Events.{WorldTurn, counted, happens, world_turn, world_by, world_step}
 use Words.Safety.{is_event}
 use Words.World.{World}
 use Rattle.st_world.specs.Shapes.{SameShape}
-use Rattle.st_world.specs.Steps.{StepsAs}
 use Rattle.st_world.specs.AdvanceTests.{IsLaid}
-use Rattle.st_world.specs.declared.fault.WorldFault.{WorldFault}
-use Rattle.st_world.specs.declared.fault.WorldFault.TheVariants.{Refused, Memory}
 use Rattle.st_world.proofs.Admitted.{timed_any}
 use Rattle.st_world.proofs.Shapes.{happens_shape}
 
@@ -37,9 +34,6 @@ stepped w new e seen l i h =
     by w e (refusal w e) new seen (happens_shape (counted w) e (λ steps q. let t = timed_any w e l i steps q in (t.nodes ∙ l.drift, t.nodes))) h
 
 -- a step of an event that is not refused
-pub admitted_steps : {V : Type 0} (seen : V → List Observation) (w new : World) (e : Event) (r : Result V WorldFault) → refusal w e ≡ None →
-    IfOk r (λ v. happens (counted w) e ≡ world_turn new (seen v)) → OnErr r (r ≡ Err Memory) → StepsAs seen w new r (world_step w e)
+pub admitted_is : (w : World) (e : Event) → refusal w e ≡ None → world_step w e ≡ Ok (happens (counted w) e)
 unfolding world_step world_by
-admitted_steps seen w new e (Ok v) a h m = ap (world_by w e) a ∙ ap Ok h
-admitted_steps seen w new e (Err (Refused f)) a h m = absurd (cc)
-admitted_steps seen w new e (Err Memory) a h m = tt
+admitted_is w e a = ap (world_by w e) a

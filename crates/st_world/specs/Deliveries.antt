@@ -1,30 +1,18 @@
 -- Whether a message may be delivered, by its nodes, and whether a command may have its effect or its report, by its state.
-use Rattle.std.specs.Prelude.{ℕ, List, Bool, ◌&&◌, ◌||◌, not, Option}
+use Rattle.std.specs.Prelude.{ℕ, Bool, ◌&&◌, ◌||◌, not, Option}
 use Rattle.std.specs.Option.{option_or}
 use Rattle.st_disk.specs.declared.commands.CommandState.{CommandState}
 use Rattle.st_world_parts.specs.declared.places.MessageEnds.{MessageEnds}
 use Rattle.st_rules.specs.declared.observation.WorldRefusal.{WorldRefusal}
 use Rattle.st_rules.specs.declared.observation.WorldRefusal.TheVariants as refusals
-use Rattle.st_rules.specs.Admissible.{cannot_step, clocks_refused, flush_missed, is_cut, is_open, late_disk, net_full, stands}
-use Rattle.st_rules.specs.World.{World, all_clients, issued_of, node_at}
-
--- its direction is cut
-abbrev pub head_cut : World → MessageEnds → Option WorldRefusal
-head_cut w h = stands (is_cut w (node_at h.from) (node_at h.to)) (refusals.LinkCut (node_at h.from) (node_at h.to))
-
--- its direction is cut, or its receiver can take no step
-abbrev pub head_refused : World → MessageEnds → Option WorldRefusal
-head_refused w h = option_or (head_cut w h) (cannot_step w (node_at h.to))
+use Rattle.st_rules.specs.Admissible.{cannot_step, is_cut, is_open, late_disk, net_full, stands}
+use Rattle.st_rules.specs.World.{World, issued_of, node_at}
 
 -- it is lost, its direction is cut, or its receiver can take no step
 abbrev pub delivery_refused : World → ℕ → MessageEnds → Option WorldRefusal
 delivery_refused w k h =
     option_or (stands h.lost (refusals.LostMessage k))
     (option_or (stands (is_cut w (node_at h.from) (node_at h.to)) (refusals.LinkCut (node_at h.from) (node_at h.to))) (cannot_step w (node_at h.to)))
-
--- an advance takes clocks apart too far, or misses a flush
-abbrev pub advance_refused : World → List ℕ → Option WorldRefusal
-advance_refused w steps = option_or (clocks_refused w steps) (flush_missed w steps (all_clients w))
 
 -- the command had its effect or was reported, or its lease is over
 abbrev pub effect_refused : World → ℕ → CommandState → Option WorldRefusal

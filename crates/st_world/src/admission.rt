@@ -3,7 +3,6 @@ ghost use Rattle.std.specs.Prelude.{◌≡◌, ◌≤◌, List, ℕ, length};
 ghost use Rattle.std.specs.Option.{option_or};
 ghost use Rattle.st_messages.specs.declared.event.Event.TheVariants as events;
 ghost use Rattle.st_rules.specs.Admissible as admissible;
-ghost use Rattle.st_world.specs.Deliveries.{advance_refused};
 ghost use Rattle.st_world.specs.AdvanceTests.{IsTimed};
 
 use crate::checks::{
@@ -37,36 +36,6 @@ fn link_refused(machine: &WorldTurn, from: NodeId, to: NodeId) -> Option<WorldRe
     }
 }
 
-fn crash_refused(machine: &WorldTurn, node: NodeId) -> Option<WorldRefusal>
-    ensures { result ≡ option_or (admissible.no_node machine.now.world node) (admissible.not_running machine.now.world node) }
-{
-    match no_node(machine, node) {
-        Some(refusal) => Some(refusal),
-        None => not_running(machine, node),
-    }
-}
-
-fn start_refused(machine: &WorldTurn, node: NodeId) -> Option<WorldRefusal>
-    ensures { result ≡ option_or (admissible.no_node machine.now.world node) (admissible.still_running machine.now.world node) }
-{
-    match no_node(machine, node) {
-        Some(refusal) => Some(refusal),
-        None => still_running(machine, node),
-    }
-}
-
-fn advance_refused(machine: &WorldTurn, steps: &[u64]) -> Option<WorldRefusal>
-    requires clients { length machine.now.world.clients ≤ 16 }
-    requires servers { length machine.now.world.servers ≤ 4 }
-    requires timed { IsTimed machine.now.world steps.now }
-    ensures { result ≡ advance_refused machine.now.world steps.now }
-{
-    match clocks_refused(machine, steps) {
-        Some(refusal) => Some(refusal),
-        None => flush_missed(machine, steps),
-    }
-}
-
 /// Returns the first refusal of an event that applies. It changes nothing and takes no memory.
 #[tactic(auto, unfolding(st_rules::specs::Admissible::refusal))]
 pub(crate) fn refusal(machine: &WorldTurn, event: &Event) -> Option<WorldRefusal>
@@ -82,10 +51,19 @@ pub(crate) fn refusal(machine: &WorldTurn, event: &Event) -> Option<WorldRefusal
         Event::Lose(k) => refused_loss(machine, *k),
         Event::Cut(from, to) => link_refused(machine, *from, *to),
         Event::Heal(from, to) => link_refused(machine, *from, *to),
-        Event::Advance(steps) => advance_refused(machine, steps.as_slice()),
+        Event::Advance(steps) => match clocks_refused(machine, steps.as_slice()) {
+            Some(refusal) => Some(refusal),
+            None => flush_missed(machine, steps.as_slice()),
+        },
         Event::Effect(k) => refused_effect(machine, *k),
         Event::Report { k, ok } => refused_report(machine, *k, *ok),
-        Event::Crash(node) => crash_refused(machine, *node),
-        Event::Start(node) => start_refused(machine, *node),
+        Event::Crash(node) => match no_node(machine, *node) {
+            Some(refusal) => Some(refusal),
+            None => not_running(machine, *node),
+        },
+        Event::Start(node) => match no_node(machine, *node) {
+            Some(refusal) => Some(refusal),
+            None => still_running(machine, *node),
+        },
     }
 }

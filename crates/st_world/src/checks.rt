@@ -5,63 +5,36 @@ ghost use Rattle.st_rules.specs.Admissible as admissible;
 ghost use Rattle.st_rules.specs.Disks as disks;
 ghost use Rattle.st_rules.specs.World as world;
 ghost use Rattle.st_rules.specs.World.{World};
-ghost use Rattle.st_world.specs.Deliveries.{delivery_refused, effect_refused, head_cut, head_refused, report_refused};
+ghost use Rattle.st_world.specs.Deliveries.{delivery_refused, effect_refused, report_refused};
 
 use st_base::{ClientId, Life, NodeId, ServerId, Stamp};
-use st_rules::{IssuedCommand, WorldRefusal};
-use st_server::ServerNode;
+use st_rules::WorldRefusal;
 use st_world_events::{WorldClient, WorldTurn, node_at, node_of_number, site_at};
 use st_world_parts::{CommandState, MessageEnds, is_done, is_told, late_at, stands};
-
-fn site_runs(site: Option<&WorldClient>) -> bool
-    ensures { result ≡ world.site_runs (option_copied site.entry) }
-{
-    match site {
-        None => false,
-        Some(site) => site.running(),
-    }
-}
-
-fn node_runs(node: Option<&ServerNode>) -> bool
-    ensures { result ≡ world.node_runs (option_copied node.entry) }
-{
-    match node {
-        None => false,
-        Some(node) => node.running(),
-    }
-}
-
-fn end_at(site: Option<&WorldClient>, server: ServerId) -> Option<Stamp>
-    ensures { (w : World) → result ≡ world.present_end w server (option_copied site.entry) }
-{
-    match site {
-        None => None,
-        Some(site) => site.lease_end(server),
-    }
-}
 
 fn is_running(machine: &WorldTurn, node: NodeId) -> bool
     ensures { result ≡ world.is_running machine.now.world node }
 {
     match node {
-        NodeId::Client(client) => site_runs(site_at(&machine.clients, client)),
-        NodeId::Server(server) => node_runs(node_at(&machine.servers, server)),
-    }
-}
-
-fn is_known(machine: &WorldTurn, node: NodeId) -> bool
-    ensures { result ≡ world.is_known machine.now.world node }
-{
-    match node {
-        NodeId::Client(client) => { 1 <= client.0 && client.0 as usize <= machine.clients.len() }
-        NodeId::Server(server) => { 1 <= server.0 && server.0 as usize <= machine.servers.len() }
+        NodeId::Client(client) => match site_at(&machine.clients, client) {
+            None => false,
+            Some(site) => site.running(),
+        },
+        NodeId::Server(server) => match node_at(&machine.servers, server) {
+            None => false,
+            Some(node) => node.running(),
+        },
     }
 }
 
 pub(crate) fn no_node(machine: &WorldTurn, node: NodeId) -> Option<WorldRefusal>
     ensures { result ≡ admissible.no_node machine.now.world node }
 {
-    stands(!is_known(machine, node), WorldRefusal::NoNode(node))
+    let known = match node {
+        NodeId::Client(client) => { 1 <= client.0 && client.0 as usize <= machine.clients.len() }
+        NodeId::Server(server) => { 1 <= server.0 && server.0 as usize <= machine.servers.len() }
+    };
+    stands(!known, WorldRefusal::NoNode(node))
 }
 
 pub(crate) fn not_running(machine: &WorldTurn, node: NodeId) -> Option<WorldRefusal>
@@ -93,32 +66,18 @@ pub(crate) fn cannot_step(machine: &WorldTurn, node: NodeId) -> Option<WorldRefu
     }
 }
 
-fn link_cut(machine: &WorldTurn, head: MessageEnds) -> Option<WorldRefusal>
-    ensures { result ≡ head_cut machine.now.world head }
-{
-    let from = node_of_number(head.from);
-    let to = node_of_number(head.to);
-    stands(
-        machine.net.is_cut(from, to),
-        WorldRefusal::LinkCut(from, to),
-    )
-}
-
 fn undelivered(machine: &WorldTurn, k: u64, head: MessageEnds) -> Option<WorldRefusal>
     ensures { result ≡ delivery_refused machine.now.world k head }
 {
+    let from = node_of_number(head.from);
+    let to = node_of_number(head.to);
+    let cut = machine.net.is_cut(from, to);
     match stands(head.lost, WorldRefusal::LostMessage(k)) {
         Some(refusal) => Some(refusal),
-        None => unsent(machine, head),
-    }
-}
-
-fn unsent(machine: &WorldTurn, head: MessageEnds) -> Option<WorldRefusal>
-    ensures { result ≡ head_refused machine.now.world head }
-{
-    match link_cut(machine, head) {
-        Some(refusal) => Some(refusal),
-        None => cannot_step(machine, node_of_number(head.to)),
+        None => match stands(cut, WorldRefusal::LinkCut(from, to)) {
+            Some(refusal) => Some(refusal),
+            None => cannot_step(machine, to),
+        },
     }
 }
 
@@ -144,6 +103,15 @@ pub(crate) fn refused_loss(machine: &WorldTurn, k: u64) -> Option<WorldRefusal>
     }
 }
 
+fn end_at(site: Option<&WorldClient>, server: ServerId) -> Option<Stamp>
+    ensures { (w : World) → result ≡ world.present_end w server (option_copied site.entry) }
+{
+    match site {
+        None => None,
+        Some(site) => site.lease_end(server),
+    }
+}
+
 fn present_end(machine: &WorldTurn, client: ClientId, server: ServerId) -> Option<Stamp>
     ensures { result ≡ world.present_end machine.now.world server (world.site_of machine.now.world client) }
 {
@@ -165,26 +133,19 @@ fn lease_end_of(
     }
 }
 
-fn late_disk(machine: &WorldTurn, command: Option<IssuedCommand>) -> Option<WorldRefusal>
-    requires { length machine.now.world.clients ≤ 16 }
-    ensures { result ≡ admissible.late_disk machine.now.world command }
-{
-    match command {
-        None => None,
-        Some(command) => late_at(
-            machine.clock_of(NodeId::Client(command.client)),
-            lease_end_of(machine, command.client, command.server, command.life),
-        ),
-    }
-}
-
 fn ineffective(machine: &WorldTurn, k: u64, standing: CommandState) -> Option<WorldRefusal>
     requires { length machine.now.world.clients ≤ 16 }
     ensures { result ≡ effect_refused machine.now.world k standing }
 {
     match stands(is_done(standing), WorldRefusal::DiskState(k)) {
         Some(refusal) => Some(refusal),
-        None => late_disk(machine, machine.commands.issued(k)),
+        None => match machine.commands.issued(k) {
+            None => None,
+            Some(command) => late_at(
+                machine.clock_of(NodeId::Client(command.client)),
+                lease_end_of(machine, command.client, command.server, command.life),
+            ),
+        },
     }
 }
 

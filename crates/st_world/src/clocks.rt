@@ -1,7 +1,6 @@
 // Advances that take clocks apart too far.
-ghost use Rattle.std.specs.Prelude.{◌≡◌, ◌≤◌, ◌<◌, ◌^◌, ◌&&◌, not, IfSome, length};
+ghost use Rattle.std.specs.Prelude.{◌≡◌, ◌≤◌, ◌<◌, ◌^◌, IfSome, length};
 ghost use Rattle.st_rules.specs.Admissible as admissible;
-ghost use Rattle.st_rules.specs.declared.observation.WorldRefusal.TheVariants as refusals;
 ghost use Rattle.st_rules.specs.Leases as leases;
 ghost use Rattle.st_rules.specs.World as world;
 ghost use Rattle.st_world.specs.AdvanceTests.{IsPair, IsTimed, excess_in};
@@ -67,16 +66,6 @@ fn node_of_place(machine: &WorldTurn, place: usize) -> NodeId
     }
 }
 
-fn rate_refused(machine: &WorldTurn, steps: &[u64]) -> Option<WorldRefusal>
-    requires { 1 ≤ length steps.now }
-    ensures { result ≡ admissible.rate_refused machine.now.world steps.now }
-{
-    stands(
-        !rate_ok(steps, machine.config.num, machine.config.den),
-        WorldRefusal::ClockRate(greatest(steps), least(steps)),
-    )
-}
-
 fn drift_refused(machine: &WorldTurn, excess: Option<Excess>) -> Option<WorldRefusal>
     requires { IfSome excess (IsPair 20) }
     ensures { result ≡ admissible.drift_refused machine.now.world excess }
@@ -98,7 +87,10 @@ pub(crate) fn clocks_refused(machine: &WorldTurn, steps: &[u64]) -> Option<World
     ensures { result ≡ admissible.clocks_refused machine.now.world steps.now }
 {
     if machine.form == 1 {
-        rate_refused(machine, steps)
+        stands(
+            !rate_ok(steps, machine.config.num, machine.config.den),
+            WorldRefusal::ClockRate(greatest(steps), least(steps)),
+        )
     } else {
         drift_refused(
             machine,

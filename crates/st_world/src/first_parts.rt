@@ -1,5 +1,5 @@
 // The parts of a world at the start.
-ghost use Rattle.std.specs.Prelude.{◌≡◌, ◌≤◌, ◌++◌, map, IsOk, IfOk, OnOk};
+ghost use Rattle.std.specs.Prelude.{◌≡◌, ◌++◌, map, IsOk, OnOk};
 ghost use Rattle.st_base.specs.Config as settings;
 ghost use Rattle.st_rules.specs.Extents.{numbers};
 ghost use Rattle.st_rules.specs.World as world;
@@ -32,25 +32,6 @@ pub(crate) fn push_server_clocks(clocks: &mut Vec<Stamp>, count: u16) -> Result<
     Ok(())
 }
 
-fn fresh_site(
-    alloc: Global,
-    client: ClientId,
-    config: &Config,
-    servers: u16,
-) -> Result<WorldClient, AllocError>
-    requires checked { IsOk (settings.check config.now) }
-    requires client { 1 ≤ client.0 }
-    requires clients { client.0 ≤ 16 }
-    requires servers { servers ≤ 4 }
-    ensures { IfOk result (λ s. s ≡ world.fresh_site config.now servers client.0) }
-{
-    Ok(WorldClient {
-        node: ClientNode::fresh(alloc, client, config, servers)?,
-        asks: 0,
-        starts: 0,
-    })
-}
-
 /// Adds the clients.
 pub(crate) fn push_sites(
     alloc: Global,
@@ -63,7 +44,11 @@ pub(crate) fn push_sites(
     ensures { OnOk result (sites.new.items ≡ sites.old.items ++ map (world.fresh_site config.now counts.now.servers) (numbers 1 counts.now.clients)) }
 {
     for i in 0..counts.clients {
-        sites.push(fresh_site(alloc, ClientId(i + 1), config, counts.servers)?)?;
+        sites.push(WorldClient {
+            node: ClientNode::fresh(alloc, ClientId(i + 1), config, counts.servers)?,
+            asks: 0,
+            starts: 0,
+        })?;
     }
     Ok(())
 }

@@ -4,7 +4,6 @@ ghost use Rattle.std.specs.List.{list_all};
 ghost use Rattle.std.specs.Option.{option_copied};
 ghost use Rattle.st_world_parts.specs.Clocks.{is_at_most, is_step};
 ghost use Rattle.st_rules.specs.Admissible as admissible;
-ghost use Rattle.st_rules.specs.Client as client_rules;
 ghost use Rattle.st_rules.specs.World as world;
 ghost use Rattle.st_world.specs.AdvanceTests.{IsTimed};
 
@@ -56,19 +55,6 @@ fn has_flushed(machine: &WorldTurn, client: ClientId, server: ServerId, end: Opt
         .any(|step| is_flush_under(client, server, end, step))
 }
 
-fn is_unflushed(
-    machine: &WorldTurn,
-    client: ClientId,
-    server: ServerId,
-    site: &WorldClient,
-    end: Option<Stamp>,
-) -> bool
-    ensures { result ≡ admissible.is_unflushed machine.now.world client server site.now end }
-{
-    site.has_dirty(server)
-        && (!has_flushed(machine, client, server, end) || site.has_write_out(server))
-}
-
 fn misses(
     machine: &WorldTurn,
     client: ClientId,
@@ -84,7 +70,8 @@ fn misses(
 {
     site.running()
         && (reaches(machine.clock_of(NodeId::Client(client)), step, end)
-            && is_unflushed(machine, client, server, site, end))
+            && (site.has_dirty(server)
+                && (!has_flushed(machine, client, server, end) || site.has_write_out(server))))
 }
 
 fn site_missed(

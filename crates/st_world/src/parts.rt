@@ -1,5 +1,5 @@
 // The parts of a world, and what they return of it.
-ghost use Rattle.std.specs.Prelude.{◌≡◌, ◌<◌, ◌≤◌, ◌+◌, ◌^◌, [], true, None, Some, IsOk, IfOk, OnOk, length, option_map};
+ghost use Rattle.std.specs.Prelude.{◌≡◌, ◌<◌, ◌≤◌, ◌+◌, ◌^◌, true, None, Some, IsOk, IfOk, OnOk, length, option_map};
 ghost use Rattle.st_base.specs.Config as settings;
 ghost use Rattle.st_rules.specs.Admissible.{refusal};
 ghost use Rattle.st_rules.specs.Events as events;
@@ -7,7 +7,8 @@ ghost use Rattle.st_rules.specs.Safety.{IsHead, is_event};
 ghost use Rattle.st_rules.specs.World as rules;
 ghost use Rattle.st_rules.specs.World.{fresh_world};
 ghost use Rattle.st_world_parts.specs.Pieces as pieces;
-ghost use Rattle.st_world.specs.Heads.{HasCounts, least};
+ghost use Rattle.st_world.specs.Counters.{CountersHaveRoom};
+ghost use Rattle.st_world.specs.Heads.{HasCounts};
 ghost use Rattle.st_world.specs.Steps.{StepsAs};
 
 use crate::admission::refusal;
@@ -48,15 +49,6 @@ impl Model for WorldParts {
     ghost invariant = { λ w. IsQuiet w.machine × (w.broken ≡ false → IsQuiet w.spare) };
 }
 
-fn fresh_lives(alloc: Global, counts: &Counts) -> Result<Lives, AllocError>
-    ensures { IfOk result (λ l. l ≡ record { clocks = rules.fresh_clocks counts.now.clients counts.now.servers; ended = [] }) }
-{
-    let mut clocks = Vec::new(alloc);
-    push_client_clocks(&mut clocks, counts.clients)?;
-    push_server_clocks(&mut clocks, counts.servers)?;
-    Ok(Lives::new(alloc, clocks))
-}
-
 /// The parts of a world at the start.
 #[tactic(auto, unfolding(st_rules::specs::World::fresh_world))]
 fn fresh(alloc: Global, config: Config, counts: &Counts, form: u8) -> Result<WorldTurn, AllocError>
@@ -68,7 +60,10 @@ fn fresh(alloc: Global, config: Config, counts: &Counts, form: u8) -> Result<Wor
     push_sites(alloc, &mut clients, &config, counts)?;
     let mut servers = Vec::new(alloc);
     push_nodes(alloc, &mut servers, &config, counts)?;
-    let lives = fresh_lives(alloc, counts)?;
+    let mut clocks = Vec::new(alloc);
+    push_client_clocks(&mut clocks, counts.clients)?;
+    push_server_clocks(&mut clocks, counts.servers)?;
+    let lives = Lives::new(alloc, clocks);
     let drift = Drift::new(alloc, counts.clients as usize + counts.servers as usize)?;
     Ok(WorldTurn {
         alloc,
@@ -90,18 +85,6 @@ fn fresh(alloc: Global, config: Config, counts: &Counts, form: u8) -> Result<Wor
     })
 }
 
-/// One client, one server, one disk.
-fn least_counts(blocks: u32) -> Counts
-    ensures { result ≡ least blocks }
-{
-    Counts {
-        clients: 1,
-        servers: 1,
-        disks: 1,
-        blocks,
-    }
-}
-
 impl WorldParts {
     /// The world of a head.
     pub(crate) fn new(
@@ -114,7 +97,13 @@ impl WorldParts {
         ensures { IfOk result (λ w. w ≡ fresh_world config counts.clients counts.servers counts.disks counts.blocks form) }
     {
         let machine = fresh(alloc, config, &counts, form)?;
-        let spare = fresh(alloc, config, &least_counts(counts.blocks), form)?;
+        let least = Counts {
+            clients: 1,
+            servers: 1,
+            disks: 1,
+            blocks: counts.blocks,
+        };
+        let spare = fresh(alloc, config, &least, form)?;
         Ok(WorldParts {
             machine,
             spare,
@@ -132,6 +121,7 @@ impl WorldParts {
         requires event { is_event (length self.old.clocks) event.now ≡ true }
         requires room { self.old.tally.events < 2 ^ 29 }
         requires admissible { refusal self.old event.now ≡ None }
+        requires counters { CountersHaveRoom self.old }
         ensures machine { StepsAs (λ seen. seen.items) self.old self.new result (events.world_step self.old event.now) }
         ensures events { OnOk result (self.new.tally.events ≡ self.old.tally.events + 1) }
         ensures clocks { OnOk result (length self.new.clocks ≡ length self.old.clocks) }
@@ -158,6 +148,7 @@ impl WorldParts {
     pub(crate) fn step(&mut self, event: &Event) -> Result<Vec<Observation>, WorldFault>
         requires event { is_event (length self.old.clocks) event.now ≡ true }
         requires room { self.old.tally.events < 2 ^ 29 }
+        requires counters { CountersHaveRoom self.old }
         ensures machine { StepsAs (λ seen. seen.items) self.old self.new result (events.world_step self.old event.now) }
         ensures events { OnOk result (self.new.tally.events ≡ self.old.tally.events + 1) }
         ensures clocks { OnOk result (length self.new.clocks ≡ length self.old.clocks) }

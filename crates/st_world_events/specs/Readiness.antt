@@ -18,10 +18,6 @@ pub record IsReady (w : World) : Type 0 where
   pub reads : w.tally.reads < 2 ^ 63
   pub stolen : w.tally.stolen < 2 ^ 63
 
--- reads and thefts are below 2^63
-abbrev pub MayCount : World → Type 0
-MayCount w = (w.tally.reads < 2 ^ 63) × (w.tally.stolen < 2 ^ 63)
-
 -- What an event that is not refused meets: the node that is asked runs, the one that is started does not, and an advance is in bound.
 abbrev pub IsMet : World → Event → Type 0
 IsMet w (events.App c ask) = (is_ask ask ≡ true) × (is_running w (nodes.Client c) ≡ true)

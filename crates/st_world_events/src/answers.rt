@@ -1,5 +1,5 @@
 // Answers to applications.
-ghost use Rattle.std.specs.Prelude.{◌≡◌, ◌<◌, ◌≤◌, ◌^◌, ◌-◌, OnOk};
+ghost use Rattle.std.specs.Prelude.{◌≡◌, ◌<◌, ◌^◌, ◌-◌, OnOk};
 ghost use Rattle.st_rules.specs.Events as events;
 ghost use Rattle.st_world_events.specs.OutputEffects.{Keeps};
 
@@ -8,16 +8,6 @@ use st_base::ClientId;
 use st_messages::AppAnswer;
 use st_rules::Observation;
 use std::alloc::AllocError;
-
-fn reads_in(answer: &AppAnswer) -> u64
-    ensures reads { result ≡ events.reads_in answer.now }
-    ensures most { result ≤ 1 }
-{
-    match answer {
-        AppAnswer::Read(_) => 1,
-        _ => 0,
-    }
-}
 
 impl WorldTurn {
     /// Answers an ask of a client.
@@ -32,7 +22,10 @@ impl WorldTurn {
         ensures exact { OnOk result (self.new ≡ events.answers_with self.old client op answer) }
         ensures kept { Keeps self.old self.new }
     {
-        self.reads += reads_in(&answer);
+        self.reads += match &answer {
+            AppAnswer::Read(_) => 1,
+            _ => 0,
+        };
         self.observe(Observation::Answered { client, op, answer })
     }
 }

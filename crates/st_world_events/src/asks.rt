@@ -1,5 +1,5 @@
 // Asks of applications.
-ghost use Rattle.std.specs.Prelude.{◌≡◌, ◌↔◌, ◌<◌, ◌≤◌, ◌+◌, ◌-◌, ◌^◌, [], true, set, slice_get, IsTrue, Some, OnOk, length};
+ghost use Rattle.std.specs.Prelude.{◌≡◌, ◌↔◌, ◌<◌, ◌+◌, ◌-◌, ◌^◌, [], true, set, slice_get, IsTrue, Some, OnOk, length};
 ghost use Rattle.st_base.specs.declared.ids.NodeId.TheVariants as nodes;
 ghost use Rattle.st_messages.specs.Ranges.{is_ask};
 ghost use Rattle.st_rules.specs.Events as events;
@@ -67,6 +67,7 @@ impl WorldTurn {
         let mut input = ClientInput::App { op, ask };
         self.client_take_at(client, i, &mut input)
     }
+
     /// A client, which runs, is asked.
     #[tactic(auto, unfolding(st_rules::specs::Events::asks_at))]
     pub(crate) fn ask(&mut self, client: ClientId, ask: Ask) -> Result<(), AllocError>

@@ -35,27 +35,6 @@ fn end_crashed(lives: &mut Lives, ended: &[LeaseLife]) -> Result<(), AllocError>
 }
 
 impl WorldClient {
-    /// The client stops.
-    fn stop(&mut self)
-        ensures { self.new ≡ events.stopped_site self.old }
-    {
-        self.node.crash();
-    }
-
-    /// The client starts again. If the count of its starts, or another of its counters, is at
-    /// its end, it returns an error of memory.
-    fn start(&mut self) -> Result<(), AllocError>
-        requires crashed { self.old.node.running ≡ false }
-        ensures { OnOk result (self.new ≡ events.started_site self.old) }
-    {
-        if self.starts == u64::MAX || !self.node.has_room() {
-            return Err(AllocError);
-        }
-        self.node.start()?;
-        self.starts += 1;
-        Ok(())
-    }
-
     /// Adds the client's present lives. If memory runs out the list stays as it was.
     pub(crate) fn push_lives(&self, found: &mut Vec<LeaseLife>) -> Result<(), AllocError>
         ensures added { OnOk result (found.new.items ≡ found.old.items ++ world.lives_of self.now.node.state) }
@@ -77,27 +56,24 @@ fn stop_site(
 {
     let site = &mut clients[i];
     site.push_lives(found)?;
-    site.stop();
+    site.node.crash();
     Ok(())
 }
 
-/// The client at a place starts.
+/// The client at a place starts. If the count of its starts, or another of its counters, is at its
+/// end, it returns an error of memory.
 fn start_site(clients: &mut Vec<WorldClient>, i: usize) -> Result<(), AllocError>
     requires there { i < length clients.old.items }
     requires crashed { (site : world.WorldClient) → slice_get clients.old.items i ≡ Some site → site.node.running ≡ false }
     ensures { AtPlace clients.old.items i (λ site. OnOk result (clients.new.items ≡ set clients.old.items i (events.started_site site))) }
 {
     let site = &mut clients[i];
-    site.start()
-}
-
-/// The server at a place crashes.
-fn crash_node(servers: &mut Vec<ServerNode>, i: usize)
-    requires { i < length servers.old.items }
-    ensures { (node : ServerNode) → slice_get servers.old.items i ≡ Some node → servers.new.items ≡ set servers.old.items i (server_rules.crash_node node) }
-{
-    let node = &mut servers[i];
-    node.crash();
+    if site.starts == u64::MAX || !site.node.has_room() {
+        return Err(AllocError);
+    }
+    site.node.start()?;
+    site.starts += 1;
+    Ok(())
 }
 
 /// The server at a place starts. If it was in its last epoch, it returns an error of memory.
@@ -122,7 +98,7 @@ impl WorldTurn {
     {
         match index_of(server.0, self.servers.len()) {
             None => {}
-            Some(i) => crash_node(&mut self.servers, i),
+            Some(i) => self.servers[i].crash(),
         }
     }
 

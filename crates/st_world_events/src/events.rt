@@ -1,12 +1,10 @@
 // Ticks, deliveries and reports.
-ghost use Rattle.std.specs.Prelude.{◌≡◌, ◌≤◌, ◌<◌, ◌+◌, ◌^◌, [], true, OnOk, IfSome, length, slice_get, Some};
+ghost use Rattle.std.specs.Prelude.{◌≡◌, ◌<◌, ◌+◌, [], true, OnOk, length, slice_get, Some};
 ghost use Rattle.st_client.specs.Inputs.{comes_fit};
 ghost use Rattle.st_messages.specs.Ranges.{fits};
 ghost use Rattle.st_rules.specs.Events as events;
-ghost use Rattle.st_rules.specs.Server.{ServerNode};
 ghost use Rattle.st_rules.specs.World as world;
 ghost use Rattle.st_server.specs.RuleConditions as ready;
-ghost use Rattle.st_server.specs.Room.{HasRoom};
 ghost use Rattle.st_world_events.specs.Indexes.{AtPlace};
 ghost use Rattle.st_world_events.specs.Readiness.{IsReady};
 
@@ -30,21 +28,13 @@ pub fn node_of_number(n: u16) -> NodeId
     }
 }
 
-impl WorldClient {
-    /// Whether the instance of the client that submitted a command still runs.
-    fn is_same_instance(&self, command: &IssuedCommand) -> bool
-        ensures { result ≡ events.is_same_instance command.now self.now }
-    {
-        self.running() && self.starts() == command.starts
-    }
-}
-
+/// Whether the instance of the client at this place that submitted a command still runs.
 fn is_same_at(clients: &[WorldClient], i: usize, command: &IssuedCommand) -> bool
     requires { i < length clients.now }
     ensures { (site : world.WorldClient) → slice_get clients.now i ≡ Some site → result ≡ events.is_same_instance command.now site }
 {
     let site = &clients[i];
-    site.is_same_instance(command)
+    site.running() && site.starts() == command.starts
 }
 
 impl WorldTurn {

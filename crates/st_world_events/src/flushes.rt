@@ -1,29 +1,20 @@
 // Flush steps: the last step of each client that ended in the flush phase at each server.
-ghost use Rattle.std.specs.Prelude.{◌≡◌, ◌≤◌, map, OnOk, length};
+ghost use Rattle.std.specs.Prelude.{◌≡◌, map, OnOk};
 ghost use Rattle.std.specs.List.{position};
-ghost use Rattle.st_rules.specs.Client as client_rules;
 ghost use Rattle.st_rules.specs.Extents.{numbers};
 ghost use Rattle.st_rules.specs.Keys as keys;
 ghost use Rattle.st_rules.specs.World as world;
-ghost use Rattle.st_world_events.specs.FlushSteps.{flush_each, flush_end, in_flush, with_end};
+ghost use Rattle.st_world_events.specs.FlushSteps.{flush_each, flush_end, with_end};
 
 use st_base::{ClientId, ServerId, Stamp};
 use st_client::ClientNode;
 use st_rules::{FlushStep, Phase};
 use std::alloc::AllocError;
 
-fn is_flush_of(step: &FlushStep, client: ClientId, server: ServerId) -> bool
-    ensures { result ≡ world.is_flush_of client server step.now }
-{
-    step.client.0 == client.0 && step.server.0 == server.0
-}
-
 fn index_of_step(flushed: &[FlushStep], client: ClientId, server: ServerId) -> Option<usize>
     ensures { result ≡ position (world.is_flush_of client server) flushed.now }
 {
-    flushed
-        .iter()
-        .position(|step| is_flush_of(step, client, server))
+    flushed.iter().position(|step| step.client.0 == client.0 && step.server.0 == server.0)
 }
 
 /// Puts a step in the place of the client's older one at this server, or last.
@@ -37,21 +28,15 @@ fn put_step(flushed: &mut Vec<FlushStep>, step: FlushStep) -> Result<(), AllocEr
     Ok(())
 }
 
-fn in_flush(end: Option<Stamp>, phase: Option<Phase>) -> Option<Stamp>
-    ensures { result ≡ in_flush end phase }
-{
-    match phase {
-        Some(Phase::Flush) => end,
-        _ => None,
-    }
-}
-
 fn flush_end(node: &ClientNode, server: ServerId, clock: Stamp) -> Option<Stamp>
     ensures { result ≡ flush_end node.now.state server clock }
 {
     match node.lease_end(server) {
         None => None,
-        Some(end) => in_flush(Some(end), node.phase(server, clock)),
+        Some(end) => match node.phase(server, clock) {
+            Some(Phase::Flush) => Some(end),
+            _ => None,
+        },
     }
 }
 

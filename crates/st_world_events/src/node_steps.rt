@@ -1,5 +1,5 @@
 // Steps of nodes.
-ghost use Rattle.std.specs.Prelude.{◌≡◌, ◌<◌, ◌≤◌, ◌+◌, ◌^◌, [], true, map, set, slice_get, Some, IfOk, OnOk, length};
+ghost use Rattle.std.specs.Prelude.{◌≡◌, ◌<◌, ◌≤◌, ◌+◌, ◌^◌, [], true, slice_get, Some, IfOk, OnOk, length};
 ghost use Rattle.std.specs.List.{list_all};
 ghost use Rattle.st_base.specs.declared.ids.NodeId.TheVariants as nodes;
 ghost use Rattle.st_client.specs.Inputs.{comes_fit, is_sent};
@@ -40,21 +40,15 @@ impl WorldClient {
         }
         self.node.step(now, mem::replace(input, ClientInput::Tick))
     }
-
-    /// The ends of the client's leases.
-    fn lease_ends(&self) -> LeaseEnds
-        ensures { HasEnds self.now.node.state result }
-    {
-        self.node.lease_ends()
-    }
 }
 
+/// The ends of the leases of the client at a place.
 fn ends_at(clients: &[WorldClient], i: usize) -> LeaseEnds
     requires { i < length clients.now }
     ensures { (site : world.WorldClient) → slice_get clients.now i ≡ Some site → HasEnds site.node.state result }
 {
     let site = &clients[i];
-    site.lease_ends()
+    site.node.lease_ends()
 }
 
 /// The client at a place takes an input.

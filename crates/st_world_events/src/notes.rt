@@ -4,7 +4,6 @@ ghost use Rattle.std.specs.List.{list_all};
 ghost use Rattle.st_client.specs.Inputs.{is_noted, is_sent};
 ghost use Rattle.st_rules.specs.ClientState.{ClientState};
 ghost use Rattle.st_rules.specs.Events as events;
-ghost use Rattle.st_rules.specs.declared.observation.Observation.TheVariants as seen;
 ghost use Rattle.st_server.specs.Invariants as sound;
 ghost use Rattle.st_world_events.specs.Ends.{HasEnds};
 ghost use Rattle.st_world_events.specs.OutputEffects.{Keeps, SameNodes};
@@ -126,32 +125,8 @@ impl WorldTurn {
         }
     }
 
-    /// A cut that was done joins the log.
-    #[tactic(auto, unfolding(st_rules::specs::Events::cuts))]
-    fn cut_pages(&mut self, file: FileId, from: PageNo) -> Result<(), AllocError>
-        ensures exact { OnOk result (self.new ≡ events.cuts self.old file from) }
-        ensures kept { Keeps self.old self.new }
-    {
-        let index = self.log.cut(file, from)?;
-        self.observe(Observation::CutAt { index, file, from })
-    }
-
-    /// A theft is counted.
-    fn steal(&mut self, server: ServerId, client: ClientId, life: Life) -> Result<(), AllocError>
-        requires { self.old.world.tally.stolen < 2 ^ 64 - 1 }
-        ensures exact { OnOk result (self.new ≡ events.observe (events.with_theft self.old.world) self.old (seen.Stolen server client life)) }
-        ensures kept { Keeps self.old self.new }
-    {
-        self.stolen += 1;
-        self.observe(Observation::Stolen {
-            server,
-            client,
-            life,
-        })
-    }
-
-    /// A note of a server.
-    #[tactic(auto, unfolding(st_rules::specs::Events::server_notes))]
+    /// A note of a server: a theft is counted, and a cut that was done joins the log.
+    #[tactic(auto, unfolding(st_rules::specs::Events::server_notes, st_rules::specs::Events::cuts))]
     fn server_note(&mut self, server: ServerId, note: Note) -> Result<(), AllocError>
         requires { self.old.world.tally.stolen < 2 ^ 64 - 1 }
         ensures exact { OnOk result (self.new ≡ events.server_notes self.old server note) }
@@ -163,8 +138,18 @@ impl WorldTurn {
                 client,
                 start,
             }),
-            Note::Stolen { client, life } => self.steal(server, client, life),
-            Note::CutDone { file, from } => self.cut_pages(file, from),
+            Note::Stolen { client, life } => {
+                self.stolen += 1;
+                self.observe(Observation::Stolen {
+                    server,
+                    client,
+                    life,
+                })
+            }
+            Note::CutDone { file, from } => {
+                let index = self.log.cut(file, from)?;
+                self.observe(Observation::CutAt { index, file, from })
+            }
             Note::Leased { .. } => Ok(()),
             Note::Lost { .. } => Ok(()),
             Note::Accepted { .. } => Ok(()),

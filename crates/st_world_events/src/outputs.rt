@@ -1,16 +1,13 @@
 // Messages that are sent, and commands that are submitted.
 ghost use Rattle.std.specs.Prelude.{◌≡◌, ◌≤◌, ◌+◌, true, OnOk, length};
-ghost use Rattle.std.specs.Option.{option_copied};
 ghost use Rattle.st_messages.specs.Ranges.{fits};
 ghost use Rattle.st_rules.specs.Events as events;
 ghost use Rattle.st_rules.specs.World as world;
-ghost use Rattle.st_rules.specs.declared.observation.Observation.TheVariants as seen;
 ghost use Rattle.st_world_events.specs.Shapes.{issued_at, issues};
 ghost use Rattle.st_world_events.specs.OutputEffects.{Keeps};
 
-use crate::client::WorldClient;
 use crate::turn::{WorldTurn, site_at};
-use st_base::{BlockAt, ClientId, Command, Tag};
+use st_base::{BlockAt, ClientId, Command};
 use st_messages::Message;
 use st_rules::{Carried, IssuedCommand, Observation};
 use std::alloc::AllocError;
@@ -28,45 +25,16 @@ impl WorldTurn {
         self.observe(Observation::Sent { k, message })
     }
 
-    fn carried(&self, client: ClientId, tag: &Tag) -> Carried
-        ensures { result ≡ events.carried self.now.world client tag.now }
-    {
-        Carried {
-            file: tag.file,
-            page: tag.page,
-            index: self.log.latest(client, tag.file, tag.page),
-        }
-    }
-
     fn carries(&self, client: ClientId, what: &Command) -> Option<Carried>
         ensures { result ≡ events.carries self.now.world client what.now }
     {
         match what {
             Command::Read { .. } => None,
-            Command::Write { tag, .. } => Some(self.carried(client, tag)),
-        }
-    }
-
-    fn issued_by(
-        &self,
-        client: ClientId,
-        site: &WorldClient,
-        number: u64,
-        at: BlockAt,
-        what: &Command,
-    ) -> IssuedCommand
-        requires some { 1 ≤ length self.now.world.servers }
-        requires few { length self.now.world.servers ≤ 4 }
-        ensures { result ≡ events.issued self.now.world client site.now number at what.now }
-    {
-        let server = self.server_of_disk(at);
-        IssuedCommand {
-            client,
-            number,
-            starts: site.starts(),
-            server,
-            life: site.life(server),
-            carries: self.carries(client, what),
+            Command::Write { tag, .. } => Some(Carried {
+                file: tag.file,
+                page: tag.page,
+                index: self.log.latest(client, tag.file, tag.page),
+            }),
         }
     }
 
@@ -83,7 +51,17 @@ impl WorldTurn {
     {
         match site_at(&self.clients, client) {
             None => None,
-            Some(site) => Some(self.issued_by(client, site, number, at, what)),
+            Some(site) => {
+                let server = self.server_of_disk(at);
+                Some(IssuedCommand {
+                    client,
+                    number,
+                    starts: site.starts(),
+                    server,
+                    life: site.life(server),
+                    carries: self.carries(client, what),
+                })
+            }
         }
     }
 

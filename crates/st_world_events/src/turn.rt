@@ -84,15 +84,6 @@ pub fn node_at(servers: &[ServerNode], server: ServerId) -> Option<&ServerNode>
     servers.get((server.0 - 1) as usize)
 }
 
-fn life_at(site: Option<&WorldClient>, server: ServerId) -> Life
-    ensures { result ≡ events.life_of_site server (option_copied site.entry) }
-{
-    match site {
-        None => Life(0),
-        Some(site) => site.life(server),
-    }
-}
-
 impl WorldTurn {
     /// One more observation.
     pub fn observe(&mut self, observation: Observation) -> Result<(), AllocError>
@@ -135,7 +126,10 @@ impl WorldTurn {
     pub fn present_life(&self, client: ClientId, server: ServerId) -> Life
         ensures { result ≡ events.present_life self.now.world client server }
     {
-        life_at(site_at(&self.clients, client), server)
+        match site_at(&self.clients, client) {
+            None => Life(0),
+            Some(site) => site.life(server),
+        }
     }
 
     /// The number of a node among the clocks.

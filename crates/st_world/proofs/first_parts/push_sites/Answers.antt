@@ -1,7 +1,8 @@
 use Rattle.st_lemmas.proofs.Words
 use Words.{ap, ◌∙◌, ◌+◌, ◌-◌, ◌∷◌, ◌++◌, [], map}
 use Words.Extents.{numbers}
-use Words.World.{fresh_site}
+use Words.Client.{ClientNode}
+use Words.World.{WorldClient, fresh_site}
 use Rattle.st_world.proofs.Counted.{counted_end, counted_on}
 use Rattle.st_world.proofs.first_parts.push_sites.Goals as goal
 
@@ -10,7 +11,8 @@ loop-i-preserved c =
     let i = c.loop-i.i in
     let n = c.args.counts.now.clients in
     let f = fresh_site c.args.config.now c.args.counts.now.servers in
-    ap (λ xs. xs ++ map f (numbers (i + 1 + 1) (n - (i + 1)))) (c.in_ok-push.ensures.items ∙ ap (λ x. c.loop-i.sites.items ++ x ∷ []) c.in_ok-fresh_site.ensures)
+    let site : ClientNode → WorldClient = λ n. record { node = n; asks = 0; starts = 0 } in
+    ap (λ xs. xs ++ map f (numbers (i + 1 + 1) (n - (i + 1)))) (c.in_ok-push.ensures.items ∙ ap (λ n. c.loop-i.sites.items ++ site n ∷ []) c.in_ok-fresh.ensures)
     ∙ counted_on f c.loop-i.sites.items i n c.loop-i-test.true
     ∙ c.loop-i.invariant
 

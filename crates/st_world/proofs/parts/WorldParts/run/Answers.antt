@@ -2,6 +2,7 @@ use Rattle.st_lemmas.proofs.Words
 use Words.{◌≡◌, ◌+◌, true, length, ap, sym, subst, ◌∙◌, arith}
 use Words.Safety.{is_event}
 use Words.World.{World}
+use Rattle.st_world.specs.Counters.{CountersHaveRoom}
 use Rattle.st_world.proofs.Goes.{quiet_after}
 use Rattle.st_world.proofs.Shaped.{laid}
 use Rattle.st_world.proofs.Stepped.{stepped}
@@ -10,6 +11,9 @@ use Rattle.st_world.proofs.parts.WorldParts.run.Goals as goal
 pub step_admitted-requires-clause-laid : goal.step_admitted-requires-clause-laid
 step_admitted-requires-clause-laid c =
     laid c.self.inside.machine.world c.self.invariant.0.reached (omega (arith, ap (λ (w : World). w.tally.events) c.self.view_is, c.requires.room))
+
+pub step_admitted-requires-clause-counters : goal.step_admitted-requires-clause-counters
+step_admitted-requires-clause-counters c = subst CountersHaveRoom (sym c.self.view_is) c.requires.counters
 
 pub invariant_of-self : goal.invariant_of-self
 invariant_of-self c = (
