@@ -5,7 +5,6 @@
 mod node_ends;
 mod node_service;
 mod node_words;
-mod numbers;
 mod program;
 mod words;
 

@@ -39,6 +39,7 @@ fn put_frame_end(out: &mut Vec<u8>, at: u64, refusal: CodecRefusal) -> Result<()
     put_text(out, b"\n")
 }
 
+/// Appends a place and the end of its line. The prover needs this split.
 fn put_place(out: &mut Vec<u8>, at: u64) -> Result<(), AllocError>
     ensures { OnOk result (out.new.items ≡ out.old.items ++ ends.place_text at) }
 {

@@ -22,59 +22,27 @@ fn server_number(word: &[u8]) -> Option<u16>
     }
 }
 
-fn one_digit(digit: u8) -> Option<u16>
-    ensures exact { result ≡ words_of.one_digit digit }
-    ensures least { IfSome result (λ n. 1 ≤ n) }
-    ensures most { IfSome result (λ n. n ≤ 16) }
-{
-    if b'1' <= digit && digit <= b'9' {
-        Some(u16::from(digit - 48))
-    } else {
-        None
-    }
-}
-
-fn two_digits(ten: u8, digit: u8) -> Option<u16>
-    ensures exact { result ≡ words_of.two_digits ten digit }
-    ensures least { IfSome result (λ n. 1 ≤ n) }
-    ensures most { IfSome result (λ n. n ≤ 16) }
-{
-    if ten == b'1' && (b'0' <= digit && digit <= b'6') {
-        Some(u16::from(digit - 38))
-    } else {
-        None
-    }
-}
-
 fn client_number(word: &[u8]) -> Option<u16>
     ensures exact { result ≡ words_of.client_number word.now }
     ensures least { IfSome result (λ n. 1 ≤ n) }
     ensures most { IfSome result (λ n. n ≤ 16) }
 {
     match word {
-        [digit] => one_digit(*digit),
-        [ten, digit] => two_digits(*ten, *digit),
+        [digit] => {
+            if b'1' <= *digit && *digit <= b'9' {
+                Some(u16::from(*digit - 48))
+            } else {
+                None
+            }
+        }
+        [ten, digit] => {
+            if *ten == b'1' && (b'0' <= *digit && *digit <= b'6') {
+                Some(u16::from(*digit - 38))
+            } else {
+                None
+            }
+        }
         _ => None,
-    }
-}
-
-fn numbered_server(word: &[u8]) -> Option<NodeId>
-    ensures exact { result ≡ words_of.numbered_server word.now }
-    ensures known { IfSome result IsKnown }
-{
-    match server_number(word) {
-        Some(number) => Some(NodeId::Server(ServerId(number))),
-        None => None,
-    }
-}
-
-fn numbered_client(word: &[u8]) -> Option<NodeId>
-    ensures exact { result ≡ words_of.numbered_client word.now }
-    ensures known { IfSome result IsKnown }
-{
-    match client_number(word) {
-        Some(number) => Some(NodeId::Client(ClientId(number))),
-        None => None,
     }
 }
 
@@ -83,9 +51,15 @@ fn numbered(kind: &[u8], word: &[u8]) -> Option<NodeId>
     ensures known { IfSome result IsKnown }
 {
     if kind == b"server".as_slice() {
-        numbered_server(word)
+        match server_number(word) {
+            Some(number) => Some(NodeId::Server(ServerId(number))),
+            None => None,
+        }
     } else if kind == b"client".as_slice() {
-        numbered_client(word)
+        match client_number(word) {
+            Some(number) => Some(NodeId::Client(ClientId(number))),
+            None => None,
+        }
     } else {
         None
     }
@@ -100,12 +74,6 @@ fn is_name(name: &[u8]) -> bool
     }
 }
 
-fn is_service(first: &[u8], name: &[u8]) -> bool
-    ensures { result ≡ words_of.is_service first.now name.now }
-{
-    first == b"node".as_slice() && is_name(name)
-}
-
 /// The node that these words start, if they are `node server ID NAME` with an ID from 1 to 4, or
 /// `node client ID NAME` with an ID from 1 to 16, and a right NAME.
 pub fn node_of(words: &[String]) -> Option<NodeId>
@@ -114,7 +82,7 @@ pub fn node_of(words: &[String]) -> Option<NodeId>
 {
     match words {
         [first, kind, id, name] => {
-            if is_service(first.as_bytes(), name.as_bytes()) {
+            if first.as_bytes() == b"node".as_slice() && is_name(name.as_bytes()) {
                 numbered(kind.as_bytes(), id.as_bytes())
             } else {
                 None

@@ -1,12 +1,13 @@
 // The words of a call.
 ghost use Rattle.std.specs.Prelude.{◌≡◌, ◌≤◌, IfSome, map, string_bytes};
+ghost use Rattle.st_schedule_words.specs.Words as words;
 ghost use Rattle.st_tank.specs.NodeWords as services;
 ghost use Rattle.st_tank.specs.Words as words_of;
 ghost use Rattle.st_tank.specs.Words.{IsInRange};
 
 use crate::node_words::node_of;
-use crate::numbers::number;
 use st_base::NodeId;
+use st_schedule_words::{in_range, is_number};
 
 const REPLAY: &[u8] = b"replay";
 
@@ -61,13 +62,15 @@ fn command_in(word: &[u8]) -> Option<Command>
     }
 }
 
-fn scripted(word: &[u8]) -> Option<Job>
-    ensures exact { result ≡ words_of.scripted (words_of.command_in word.now) }
-    ensures range { IfSome result IsInRange }
+/// The value of a word of digits without a leading zero, if it is at most `most`.
+fn number(most: u64, word: &[u8]) -> Option<u64>
+    ensures value { result ≡ words.plain 0 most word.now }
+    ensures range { IfSome result (λ n. (0 ≤ n) × (n ≤ most)) }
 {
-    match command_in(word) {
-        Some(command) => Some(Job::Script(command)),
-        None => None,
+    if is_number(word) {
+        in_range(0, most, word)
+    } else {
+        None
     }
 }
 
@@ -76,23 +79,11 @@ fn alone(word: &[u8]) -> Option<Job>
     ensures range { IfSome result IsInRange }
 {
     if word == REPLAY {
-        Some(Job::Replay)
-    } else {
-        scripted(word)
+        return Some(Job::Replay);
     }
-}
-
-fn named(word: &[u8], n: u32, seed: u64) -> Option<Job>
-    requires { n ≤ 100000 }
-    ensures exact { result ≡ words_of.named word.now n seed }
-    ensures range { IfSome result IsInRange }
-{
-    if word == GENERATE {
-        Some(Job::Generate(n, seed))
-    } else if word == WORK {
-        Some(Job::Work(n, seed))
-    } else {
-        None
+    match command_in(word) {
+        Some(command) => Some(Job::Script(command)),
+        None => None,
     }
 }
 
@@ -106,7 +97,13 @@ fn numbered(word: &[u8], n: &[u8], seed: &[u8]) -> Option<Job>
     let Some(seed) = number(u64::MAX, seed) else {
         return None;
     };
-    named(word, n as u32, seed)
+    if word == GENERATE {
+        Some(Job::Generate(n as u32, seed))
+    } else if word == WORK {
+        Some(Job::Work(n as u32, seed))
+    } else {
+        None
+    }
 }
 
 fn served(words: &[String]) -> Option<Job>
