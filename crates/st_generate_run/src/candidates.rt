@@ -131,12 +131,13 @@ fn report_success(draws: &mut Draws, event: &mut Event, submitted: u64) -> bool
     }
 }
 
-/// One report in eight is of a failure. It returns false if there is no command.
-#[tactic(auto, unfolding(st_rules::specs::Generator::outcome))]
-fn outcome(draws: &mut Draws, event: &mut Event, command: Option<u64>) -> bool
-    ensures { (found result event.new, draws.new) ≡ generator.outcome command draws.old }
+/// One of the last 6 commands is reported, one in eight as a failure. It returns false if none was
+/// submitted.
+#[tactic(auto, unfolding(st_rules::specs::Generator::report, st_rules::specs::Generator::outcome))]
+fn report(draws: &mut Draws, event: &mut Event, submitted: u64) -> bool
+    ensures { (found result event.new, draws.new) ≡ generator.report submitted draws.old }
 {
-    match command {
+    match draws.recent(submitted, 6) {
         None => false,
         Some(k) => {
             let ok = draws.draw(8) != 0;
@@ -146,75 +147,36 @@ fn outcome(draws: &mut Draws, event: &mut Event, command: Option<u64>) -> bool
     }
 }
 
-/// One of the last 6 commands is reported. It returns false if none was submitted.
-#[tactic(auto, unfolding(st_rules::specs::Generator::report))]
-fn report(draws: &mut Draws, event: &mut Event, submitted: u64) -> bool
-    ensures { (found result event.new, draws.new) ≡ generator.report submitted draws.old }
-{
-    let command = draws.recent(submitted, 6);
-    outcome(draws, event, command)
-}
-
-/// A direction is cut.
-#[tactic(auto, unfolding(st_rules::specs::Generator::cut, st_rules::specs::Generator::state_after))]
-fn cut(draws: &mut Draws, event: &mut Event)
-    ensures { (Some event.new, draws.new) ≡ generator.cut draws.old }
-{
-    let from = draws.node();
-    let to = draws.node();
-    *event = Event::Cut(from, to);
-}
-
-/// A direction is healed.
-#[tactic(auto, unfolding(st_rules::specs::Generator::heal, st_rules::specs::Generator::state_after))]
-fn heal(draws: &mut Draws, event: &mut Event)
-    ensures { (Some event.new, draws.new) ≡ generator.heal draws.old }
-{
-    let from = draws.node();
-    let to = draws.node();
-    *event = Event::Heal(from, to);
-}
-
 /// A loss, a cut or a heal. It returns false if a message should be lost and none was sent.
-#[tactic(auto, unfolding(st_rules::specs::Generator::network))]
+#[tactic(auto, unfolding(st_rules::specs::Generator::network, st_rules::specs::Generator::cut, st_rules::specs::Generator::heal, st_rules::specs::Generator::state_after))]
 fn network(draws: &mut Draws, event: &mut Event, sent: u64) -> bool
     ensures { (found result event.new, draws.new) ≡ generator.network sent draws.old }
 {
     match draws.draw(3) {
         0 => lose(draws, event, sent),
         1 => {
-            cut(draws, event);
+            let from = draws.node();
+            let to = draws.node();
+            *event = Event::Cut(from, to);
             true
         }
         _ => {
-            heal(draws, event);
+            let from = draws.node();
+            let to = draws.node();
+            *event = Event::Heal(from, to);
             true
         }
     }
 }
 
-#[tactic(auto, unfolding(st_rules::specs::Generator::crash))]
-fn crash(draws: &mut Draws, event: &mut Event)
-    ensures { (Some event.new, draws.new) ≡ generator.crash draws.old }
-{
-    *event = Event::Crash(draws.node());
-}
-
-#[tactic(auto, unfolding(st_rules::specs::Generator::start))]
-fn start(draws: &mut Draws, event: &mut Event)
-    ensures { (Some event.new, draws.new) ≡ generator.start draws.old }
-{
-    *event = Event::Start(draws.node());
-}
-
 /// A crash, a start or a tick.
-#[tactic(auto, unfolding(st_rules::specs::Generator::crash_or_start))]
+#[tactic(auto, unfolding(st_rules::specs::Generator::crash_or_start, st_rules::specs::Generator::crash, st_rules::specs::Generator::start))]
 fn crash_or_start(draws: &mut Draws, event: &mut Event)
     ensures { (Some event.new, draws.new) ≡ generator.crash_or_start draws.old }
 {
     match draws.draw(20) {
-        0 => crash(draws, event),
-        1..=9 => start(draws, event),
+        0 => *event = Event::Crash(draws.node()),
+        1..=9 => *event = Event::Start(draws.node()),
         _ => tick(draws, event),
     }
 }

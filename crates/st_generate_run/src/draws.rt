@@ -18,18 +18,6 @@ impl Model for Draws {
     ghost view = { λ d. d.state };
 }
 
-/// The node of a number: c1, c2, c3, s1, s2.
-fn node_of(number: u64) -> NodeId
-    requires { number < 5 }
-    ensures { result ≡ generator.drawn_node number }
-{
-    if number < 3 {
-        NodeId::Client(ClientId((number + 1) as u16))
-    } else {
-        NodeId::Server(ServerId((number - 2) as u16))
-    }
-}
-
 impl Draws {
     /// The numbers that follow from this seed.
     pub fn new(seed: u64) -> Draws
@@ -49,18 +37,8 @@ impl Draws {
             .wrapping_add(1_442_695_040_888_963_407);
     }
 
-    /// The number below `bound` that the state gives.
-    #[tactic(auto, unfolding(st_rules::specs::Generator::below))]
-    fn below(&self, bound: u64) -> u64
-        requires { 0 < bound }
-        ensures value { result ≡ generator.below bound self.now }
-        ensures bound { result < bound }
-    {
-        (self.state >> 33) % bound
-    }
-
     /// The next number, below `bound`.
-    #[tactic(auto, unfolding(st_rules::specs::Generator::state_after))]
+    #[tactic(auto, unfolding(st_rules::specs::Generator::state_after, st_rules::specs::Generator::below))]
     pub fn draw(&mut self, bound: u64) -> u64
         requires { 0 < bound }
         ensures value { result ≡ generator.draw 1 bound self.old }
@@ -68,15 +46,20 @@ impl Draws {
         ensures bound { result < bound }
     {
         self.step();
-        self.below(bound)
+        (self.state >> 33) % bound
     }
 
-    /// A node.
+    /// A node: c1, c2, c3, s1, s2.
     pub fn node(&mut self) -> NodeId
         ensures value { result ≡ generator.node 1 self.old }
         ensures state { self.new ≡ generator.state_after 1 self.old }
     {
-        node_of(self.draw(5))
+        let number = self.draw(5);
+        if number < 3 {
+            NodeId::Client(ClientId((number + 1) as u16))
+        } else {
+            NodeId::Server(ServerId((number - 2) as u16))
+        }
     }
 
     /// One of three clients.

@@ -4,7 +4,6 @@ ghost use Rattle.std.specs.Io.KnownBytes.{Appends};
 ghost use Rattle.st_generate.specs.GeneratedText.{work_text};
 ghost use Rattle.st_link.specs.Prefixes.{AppendsPrefix};
 ghost use Rattle.st_rules.specs.Generator as generator;
-ghost use Rattle.st_rules.specs.Report.{ended};
 ghost use Rattle.st_rules.specs.Run.{run};
 ghost use Rattle.st_generate_run.specs.Pieces.{HasCauses};
 ghost use Rattle.st_generate_run.specs.Turns.{IsReady};
@@ -44,18 +43,6 @@ pub fn work(alloc: Global, seed: u64, n: u32) -> Result<Summary, AllocError>
     Ok(world.summary())
 }
 
-/// Writes the last line of a report that tells these counts.
-fn put_summary<O: Sink>(alloc: Global, summary: Summary, out: &mut O) -> Result<(), WorkFault>
-    ensures text { OnOk result (Appends (O.written out.old) (O.written out.new) (ended summary)) }
-    ensures front { OnErr result (AppendsPrefix (O.written out.old) (O.written out.new) (ended summary)) }
-    ensures causes { HasCauses result (O.faults out.old) (O.faults out.new) }
-{
-    let mut text = Vec::new(alloc);
-    put_ended(&mut text, summary)?;
-    put_all(out, text.as_slice())?;
-    Ok(())
-}
-
 /// Runs the schedule of `n` events that this seed gives, writes the last line of its report, and
 /// returns what the line tells.
 ///
@@ -76,6 +63,8 @@ pub fn put_work<O: Sink>(
     ensures causes { HasCauses result (O.faults out.old) (O.faults out.new) }
 {
     let summary = work(alloc, seed, n)?;
-    put_summary(alloc, summary, out)?;
+    let mut text = Vec::new(alloc);
+    put_ended(&mut text, summary)?;
+    put_all(out, text.as_slice())?;
     Ok(summary)
 }

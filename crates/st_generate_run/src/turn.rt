@@ -1,7 +1,6 @@
 // A turn: the next event is chosen, and runs in the world.
 ghost use Rattle.std.specs.Prelude.{◌≡◌, ◌+◌, ◌<◌, ◌^◌, true, None, IfOk, OnOk, length};
 ghost use Rattle.st_rules.specs.Admissible.{refusal};
-ghost use Rattle.st_generate.specs.GeneratedText as generated;
 ghost use Rattle.st_rules.specs.Generator as generator;
 ghost use Rattle.st_rules.specs.Safety.{is_event};
 ghost use Rattle.st_generate_run.specs.Turns.{IsReady, IsTurn, Leads};
@@ -9,56 +8,32 @@ ghost use Rattle.st_generate_run.specs.Turns.{IsReady, IsTurn, Leads};
 use crate::Draws;
 use crate::choice::{choose, fallback_event};
 use st_base::Config;
-use st_messages::{Counts, Event};
+use st_messages::Event;
 use st_rules::Observation;
 use st_world::{World, WorldFault};
 use std::alloc::{AllocError, Global};
 use std::mem;
 
 /// The settings of a generated schedule.
-fn settings() -> Config
-    ensures { result ≡ generator.settings }
-{
-    Config {
-        lease: 1000,
-        renew: 500,
-        quiesce: 700,
-        flush: 850,
-        demand: 100,
-        retry: 50,
-        num: 101,
-        den: 100,
-        grain: 0,
-    }
-}
+const SETTINGS: Config = Config {
+    lease: 1000,
+    renew: 500,
+    quiesce: 700,
+    flush: 850,
+    demand: 100,
+    retry: 50,
+    num: 101,
+    den: 100,
+    grain: 0,
+};
 
-/// Three clients and two servers, with two disks.
-fn counts() -> Counts
-    ensures { result ≡ generated.counts }
-{
-    Counts {
-        clients: 3,
-        servers: 2,
-        disks: 2,
-        blocks: 64,
-    }
-}
-
-/// The world in which a generated schedule begins.
+/// The world in which a generated schedule begins: three clients and two servers, with two disks of
+/// 64 blocks.
 #[tactic(auto, unfolding(st_rules::specs::Generator::generator_world))]
 pub(crate) fn fresh(alloc: Global) -> Result<World, AllocError>
     ensures { IfOk result (λ w. w ≡ generator.generator_world) }
 {
-    let counts = counts();
-    World::new(
-        alloc,
-        &settings(),
-        counts.clients,
-        counts.servers,
-        counts.disks,
-        counts.blocks,
-        1,
-    )
+    World::new(alloc, &SETTINGS, 3, 2, 2, 64, 1)
 }
 
 /// Runs an event that is admissible. What was observed of the one before makes room for what is
