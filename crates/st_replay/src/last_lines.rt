@@ -1,8 +1,7 @@
 // The last line of a report: of a run that went through the end, or of a line that stopped it.
-ghost use Rattle.std.specs.Prelude.{◌≡◌, ◌++◌, [], ◌∷◌, IfOk, OnOk, Ok};
+ghost use Rattle.std.specs.Prelude.{◌≡◌, ◌++◌, [], IfOk, OnOk, Ok};
 ghost use Rattle.st_rules.specs.Events as rules;
-ghost use Rattle.st_schedule.specs.Reader.{read_end};
-ghost use Rattle.st_runs.specs.Replay.{Stopped, behind, config_refusal, last_line, line_refusal, schedule_refusal};
+ghost use Rattle.st_runs.specs.Replay.{Stopped, behind, last_line, line_refusal, schedule_refusal};
 ghost use Rattle.st_replay.specs.States.{EndsAt, Goes, IsHere, OnStop, from_here};
 ghost use Rattle.st_replay.specs.Streams.{Concludes, EndsWhole, one};
 ghost use Rattle.st_rules.specs.Report.{refused, ended};
@@ -16,18 +15,6 @@ use st_runs::LineRefusal;
 use st_schedule::ScheduleRefusal;
 use st_world::World;
 use std::alloc::AllocError;
-
-fn config_text(refusal: ConfigRefusal) -> &'static str
-    ensures { result.now ≡ config_refusal refusal }
-{
-    match refusal {
-        ConfigRefusal::Order => " Config Order",
-        ConfigRefusal::Rate => " Config Rate",
-        ConfigRefusal::TooLong => " Config TooLong",
-        ConfigRefusal::Demand => " Config Demand",
-        ConfigRefusal::Grain => " Config Grain",
-    }
-}
 
 /// Appends why a line could not be read.
 fn put_unread(text: &mut Vec<u8>, refusal: &ScheduleRefusal) -> Result<(), AllocError>
@@ -47,7 +34,13 @@ fn put_unread(text: &mut Vec<u8>, refusal: &ScheduleRefusal) -> Result<(), Alloc
         ScheduleRefusal::NoEnd => put_text(text, b" NoEnd"),
         ScheduleRefusal::AfterEnd => put_text(text, b" AfterEnd"),
         ScheduleRefusal::TooMany => put_text(text, b" TooMany 100000"),
-        ScheduleRefusal::Config(refusal) => put_text(text, config_text(*refusal).as_bytes()),
+        ScheduleRefusal::Config(refusal) => match refusal {
+            ConfigRefusal::Order => put_text(text, b" Config Order"),
+            ConfigRefusal::Rate => put_text(text, b" Config Rate"),
+            ConfigRefusal::TooLong => put_text(text, b" Config TooLong"),
+            ConfigRefusal::Demand => put_text(text, b" Config Demand"),
+            ConfigRefusal::Grain => put_text(text, b" Config Grain"),
+        },
         ScheduleRefusal::Memory => Ok(()),
     }
 }
