@@ -42,16 +42,10 @@ fn place_at(rest: &[u8]) -> Result<((ServerId, u32), &[u8]), ReadError>
     Ok(((s, c as u32), rest))
 }
 
-fn is_visible(b: u8) -> bool
-    ensures { result ≡ words.is_visible b }
-{
-    33 <= b && b <= 126
-}
-
 fn are_visible(word: &[u8]) -> bool
     ensures { result ≡ list_all words.is_visible word.now }
 {
-    word.iter().all(|b| is_visible(*b))
+    word.iter().all(|b| 33 <= *b && *b <= 126)
 }
 
 /// Whether the word has 1 to 64 visible bytes.
@@ -105,30 +99,6 @@ fn place_alone(rest: &[u8]) -> Result<(ServerId, u32), ReadError>
     Ok(at)
 }
 
-#[tactic(auto, unfolding(crate::specs::MoveScripts::list_at))]
-fn list_at(rest: &[u8]) -> Result<MoveEvent, ReadError>
-    ensures { Gives (λ x. x) result (scripts.list_at (words_behind rest.now)) }
-{
-    let (s, c) = place_alone(rest)?;
-    Ok(MoveEvent::List(s, c))
-}
-
-#[tactic(auto, unfolding(crate::specs::MoveScripts::lock_at))]
-fn lock_at(rest: &[u8]) -> Result<MoveEvent, ReadError>
-    ensures { Gives (λ x. x) result (scripts.lock_at (words_behind rest.now)) }
-{
-    let (s, c) = place_alone(rest)?;
-    Ok(MoveEvent::Lock(s, c))
-}
-
-#[tactic(auto, unfolding(crate::specs::MoveScripts::unlock_at))]
-fn unlock_at(rest: &[u8]) -> Result<MoveEvent, ReadError>
-    ensures { Gives (λ x. x) result (scripts.unlock_at (words_behind rest.now)) }
-{
-    let (s, c) = place_alone(rest)?;
-    Ok(MoveEvent::Unlock(s, c))
-}
-
 #[tactic(auto, unfolding(crate::specs::MoveScripts::order_at))]
 fn order_at(rest: &[u8]) -> Result<MoveEvent, ReadError>
     ensures { Gives (λ x. x) result (scripts.order_at (words_behind rest.now)) }
@@ -137,15 +107,6 @@ fn order_at(rest: &[u8]) -> Result<MoveEvent, ReadError>
     let (to, rest) = server_at(rest)?;
     ends(rest)?;
     Ok(MoveEvent::Order(s, c, to))
-}
-
-#[tactic(auto, unfolding(crate::specs::MoveScripts::tick_at))]
-fn tick_at(rest: &[u8]) -> Result<MoveEvent, ReadError>
-    ensures { Gives (λ x. x) result (scripts.tick_at (words_behind rest.now)) }
-{
-    let (s, rest) = server_at(rest)?;
-    ends(rest)?;
-    Ok(MoveEvent::Tick(s))
 }
 
 /// The number of a message, and no more.
@@ -158,52 +119,41 @@ fn message_alone(rest: &[u8]) -> Result<u32, ReadError>
     Ok(k as u32)
 }
 
-#[tactic(auto, unfolding(crate::specs::MoveScripts::deliver_at))]
-fn deliver_at(rest: &[u8]) -> Result<MoveEvent, ReadError>
-    ensures { Gives (λ x. x) result (scripts.deliver_at (words_behind rest.now)) }
-{
-    let k = message_alone(rest)?;
-    Ok(MoveEvent::Deliver(k))
-}
-
-#[tactic(auto, unfolding(crate::specs::MoveScripts::lose_at))]
-fn lose_at(rest: &[u8]) -> Result<MoveEvent, ReadError>
-    ensures { Gives (λ x. x) result (scripts.lose_at (words_behind rest.now)) }
-{
-    let k = message_alone(rest)?;
-    Ok(MoveEvent::Lose(k))
-}
-
-#[tactic(auto, unfolding(crate::specs::MoveScripts::other_of))]
+#[tactic(auto, unfolding(crate::specs::MoveScripts::other_of, crate::specs::MoveScripts::tick_at, crate::specs::MoveScripts::deliver_at, crate::specs::MoveScripts::lose_at))]
 fn other_of(word: &[u8], line: &[u8], rest: &[u8]) -> Result<MoveEvent, ReadError>
     ensures { Gives (λ x. x) result (scripts.other_of word.now (split line.now) (words_behind rest.now)) }
 {
     if is(word, b"order") {
         order_at(rest)
     } else if is(word, b"tick") {
-        tick_at(rest)
+        let (s, rest) = server_at(rest)?;
+        ends(rest)?;
+        Ok(MoveEvent::Tick(s))
     } else if is(word, b"deliver") {
-        deliver_at(rest)
+        Ok(MoveEvent::Deliver(message_alone(rest)?))
     } else if is(word, b"lose") {
-        lose_at(rest)
+        Ok(MoveEvent::Lose(message_alone(rest)?))
     } else {
         Err(unknown_word(line))
     }
 }
 
 /// Reads the event of a line with this first word.
-#[tactic(auto, unfolding(crate::specs::MoveScripts::event_of))]
+#[tactic(auto, unfolding(crate::specs::MoveScripts::event_of, crate::specs::MoveScripts::list_at, crate::specs::MoveScripts::lock_at, crate::specs::MoveScripts::unlock_at))]
 fn event_of(alloc: Global, word: &[u8], line: &[u8], rest: &[u8]) -> Result<MoveEvent, ReadError>
     ensures { Gives (λ x. x) result (scripts.event_of word.now (split line.now) (words_behind rest.now)) }
 {
     if is(word, b"put") {
         put_at(alloc, rest)
     } else if is(word, b"list") {
-        list_at(rest)
+        let (s, c) = place_alone(rest)?;
+        Ok(MoveEvent::List(s, c))
     } else if is(word, b"lock") {
-        lock_at(rest)
+        let (s, c) = place_alone(rest)?;
+        Ok(MoveEvent::Lock(s, c))
     } else if is(word, b"unlock") {
-        unlock_at(rest)
+        let (s, c) = place_alone(rest)?;
+        Ok(MoveEvent::Unlock(s, c))
     } else {
         other_of(word, line, rest)
     }
@@ -218,26 +168,18 @@ pub(crate) fn move_event(alloc: Global, line: &[u8]) -> Result<MoveEvent, ReadEr
     event_of(alloc, word, line, rest)
 }
 
-#[tactic(auto, unfolding(crate::specs::MoveScripts::counts_at))]
-fn counts_at(rest: &[u8]) -> Result<(u16, u32), ReadError>
-    ensures value { Gives (λ x. x) result (scripts.counts_at (words_behind rest.now)) }
-    ensures range { IfOk result (λ x. (2 ≤ x.0) × (x.1 ≤ 64)) }
-{
-    let (servers, rest) = number_at(2, MOST_SERVER, rest)?;
-    let (containers, rest) = number_at(1, 64, rest)?;
-    ends(rest)?;
-    Ok((servers as u16, containers as u32))
-}
-
 /// Reads a first line: how many servers there are, and how many containers.
-#[tactic(auto, unfolding(crate::specs::MoveScripts::head))]
+#[tactic(auto, unfolding(crate::specs::MoveScripts::head, crate::specs::MoveScripts::counts_at))]
 pub(crate) fn counts_of(line: &[u8]) -> Result<(u16, u32), ReadError>
     ensures value { Gives scripts.fresh result (scripts.head (split line.now)) }
     ensures range { IfOk result (λ x. (2 ≤ x.0) × (x.1 ≤ 64)) }
 {
     let (word, rest) = split_word(line);
     if is(word, b"move") {
-        counts_at(rest)
+        let (servers, rest) = number_at(2, MOST_SERVER, rest)?;
+        let (containers, rest) = number_at(1, 64, rest)?;
+        ends(rest)?;
+        Ok((servers as u16, containers as u32))
     } else {
         Err(unknown_word(line))
     }

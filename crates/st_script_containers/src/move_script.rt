@@ -60,12 +60,15 @@ fn put_why(text: &mut Vec<u8>, refusal: MoveRefusal) -> Result<(), AllocError>
     }
 }
 
-/// Appends a message.
+/// Appends a message that is sent, under its number.
 #[tactic(auto, unfolding(crate::specs::MoveScripts::message))]
-fn put_message(text: &mut Vec<u8>, message: &MoveMessage) -> Result<(), AllocError>
-    ensures { OnOk result (text.new.items ≡ text.old.items ++ scripts.message message.now) }
+fn put_sent(text: &mut Vec<u8>, k: u64, sent: &SentMove) -> Result<(), AllocError>
+    ensures { OnOk result (text.new.items ≡ text.old.items ++ scripts.sent k sent.now) }
 {
-    match message {
+    put_with(text, b" send", k)?;
+    put_server(text, sent.from)?;
+    put_server(text, sent.to)?;
+    match &sent.message {
         MoveMessage::Image(c, version, updates) => {
             put_with(text, b" image", u64::from(*c))?;
             put_field(text, *version)?;
@@ -76,16 +79,6 @@ fn put_message(text: &mut Vec<u8>, message: &MoveMessage) -> Result<(), AllocErr
             put_field(text, *version)
         }
     }
-}
-
-/// Appends a message that is sent, under its number.
-fn put_sent(text: &mut Vec<u8>, k: u64, sent: &SentMove) -> Result<(), AllocError>
-    ensures { OnOk result (text.new.items ≡ text.old.items ++ scripts.sent k sent.now) }
-{
-    put_with(text, b" send", k)?;
-    put_server(text, sent.from)?;
-    put_server(text, sent.to)?;
-    put_message(text, &sent.message)
 }
 
 /// Appends an update after a space.

@@ -1,6 +1,5 @@
 // The events of a volume with images, from their lines.
-ghost use Rattle.std.specs.Prelude.{◌≡◌, ◌≤◌, IfOk};
-ghost use Rattle.std.specs.Str.{bytes_eq};
+ghost use Rattle.std.specs.Prelude.{◌≤◌, IfOk};
 ghost use Rattle.st_schedule.specs.Parser.{Gives};
 ghost use Rattle.st_schedule_words.specs.Words.{split, words_behind};
 ghost use Rattle.st_script_containers.specs.SnapScripts as scripts;
@@ -28,25 +27,17 @@ pub enum SnapEvent {
     Forget { image: u32 },
 }
 
-#[tactic(auto, unfolding(crate::specs::SnapScripts::blocks_at))]
-fn blocks_at(rest: &[u8]) -> Result<u32, ReadError>
-    ensures value { Gives (λ x. x) result (scripts.blocks_at (words_behind rest.now)) }
-    ensures range { IfOk result (λ x. (1 ≤ x) × (x ≤ 4096)) }
-{
-    let (blocks, rest) = number_at(1, 4096, rest)?;
-    ends(rest)?;
-    Ok(blocks as u32)
-}
-
 /// Reads a first line: the number of blocks.
-#[tactic(auto, unfolding(crate::specs::SnapScripts::head))]
+#[tactic(auto, unfolding(crate::specs::SnapScripts::head, crate::specs::SnapScripts::blocks_at))]
 pub(crate) fn blocks_of(line: &[u8]) -> Result<u32, ReadError>
     ensures value { Gives scripts.fresh result (scripts.head (split line.now)) }
     ensures range { IfOk result (λ x. (1 ≤ x) × (x ≤ 4096)) }
 {
     let (word, rest) = split_word(line);
     if is(word, b"snap") {
-        blocks_at(rest)
+        let (blocks, rest) = number_at(1, 4096, rest)?;
+        ends(rest)?;
+        Ok(blocks as u32)
     } else {
         Err(unknown_word(line))
     }
@@ -82,27 +73,8 @@ fn read_at(rest: &[u8]) -> Result<SnapEvent, ReadError>
     })
 }
 
-#[tactic(auto, unfolding(crate::specs::SnapScripts::take_at))]
-fn take_at(rest: &[u8]) -> Result<SnapEvent, ReadError>
-    ensures { Gives (λ x. x) result (scripts.take_at (words_behind rest.now)) }
-{
-    ends(rest)?;
-    Ok(SnapEvent::Take)
-}
-
-#[tactic(auto, unfolding(crate::specs::SnapScripts::forget_at))]
-fn forget_at(rest: &[u8]) -> Result<SnapEvent, ReadError>
-    ensures { Gives (λ x. x) result (scripts.forget_at (words_behind rest.now)) }
-{
-    let (image, rest) = number_at(0, MOST_IMAGE, rest)?;
-    ends(rest)?;
-    Ok(SnapEvent::Forget {
-        image: image as u32,
-    })
-}
-
 /// Reads the event of a line with this first word.
-#[tactic(auto, unfolding(crate::specs::SnapScripts::event_of))]
+#[tactic(auto, unfolding(crate::specs::SnapScripts::event_of, crate::specs::SnapScripts::take_at, crate::specs::SnapScripts::forget_at))]
 fn event_of(word: &[u8], line: &[u8], rest: &[u8]) -> Result<SnapEvent, ReadError>
     ensures { Gives (λ x. x) result (scripts.event_of word.now (split line.now) (words_behind rest.now)) }
 {
@@ -111,9 +83,14 @@ fn event_of(word: &[u8], line: &[u8], rest: &[u8]) -> Result<SnapEvent, ReadErro
     } else if is(word, b"read") {
         read_at(rest)
     } else if is(word, b"take") {
-        take_at(rest)
+        ends(rest)?;
+        Ok(SnapEvent::Take)
     } else if is(word, b"forget") {
-        forget_at(rest)
+        let (image, rest) = number_at(0, MOST_IMAGE, rest)?;
+        ends(rest)?;
+        Ok(SnapEvent::Forget {
+            image: image as u32,
+        })
     } else {
         Err(unknown_word(line))
     }
