@@ -1,6 +1,5 @@
 // The events of a journal, from their lines.
 ghost use Rattle.std.specs.Prelude.{◌≡◌, ◌≤◌, ◌+◌, true};
-ghost use Rattle.std.specs.Str.{bytes_eq};
 ghost use Rattle.st_journal.specs.Changes.{is_ranged};
 ghost use Rattle.st_schedule.specs.Parser.{Gives};
 ghost use Rattle.st_schedule_words.specs.Words.{split, words_behind};
@@ -105,14 +104,6 @@ pub enum JournalEvent {
     Stop(SetStop),
 }
 
-#[tactic(auto, unfolding(crate::specs::JournalScripts::epoch_at, st_journal::specs::Changes::is_ranged))]
-fn epoch_at(rest: &[u8]) -> Result<JournalEvent, ReadError>
-    ensures { Gives (λ x. x) result (scripts.epoch_at (words_behind rest.now)) }
-{
-    ends(rest)?;
-    Ok(JournalEvent::Change(RangedChange::new(Change::Epoch)))
-}
-
 /// The most pages of an allocation from this page on.
 fn most_count(page: u64) -> u64
     requires { page ≤ 1048575 }
@@ -212,23 +203,14 @@ fn rename_at(alloc: Global, rest: &[u8]) -> Result<JournalEvent, ReadError>
     })))
 }
 
-#[tactic(auto, unfolding(crate::specs::JournalScripts::stop_at))]
-fn stop_at(rest: &[u8]) -> Result<JournalEvent, ReadError>
-    ensures { Gives (λ x. x) result (scripts.stop_at (words_behind rest.now)) }
-{
-    let (call, rest) = number_at(1, 4, rest)?;
-    let (byte, rest) = number_at(0, 255, rest)?;
-    ends(rest)?;
-    Ok(JournalEvent::Stop(SetStop::new(call, byte as u8)))
-}
-
 /// Reads the event of a line with this first word.
-#[tactic(auto, unfolding(crate::specs::JournalScripts::event_of))]
+#[tactic(auto, unfolding(crate::specs::JournalScripts::event_of, crate::specs::JournalScripts::epoch_at, crate::specs::JournalScripts::stop_at, st_journal::specs::Changes::is_ranged))]
 fn event_of(alloc: Global, word: &[u8], line: &[u8], rest: &[u8]) -> Result<JournalEvent, ReadError>
     ensures { Gives (λ x. x) result (scripts.event_of word.now (split line.now) (words_behind rest.now)) }
 {
     if is(word, b"epoch") {
-        epoch_at(rest)
+        ends(rest)?;
+        Ok(JournalEvent::Change(RangedChange::new(Change::Epoch)))
     } else if is(word, b"allocate") {
         allocate_at(rest)
     } else if is(word, b"cut") {
@@ -242,7 +224,10 @@ fn event_of(alloc: Global, word: &[u8], line: &[u8], rest: &[u8]) -> Result<Jour
     } else if is(word, b"rename") {
         rename_at(alloc, rest)
     } else if is(word, b"stop") {
-        stop_at(rest)
+        let (call, rest) = number_at(1, 4, rest)?;
+        let (byte, rest) = number_at(0, 255, rest)?;
+        ends(rest)?;
+        Ok(JournalEvent::Stop(SetStop::new(call, byte as u8)))
     } else {
         Err(unknown_word(line))
     }

@@ -62,17 +62,6 @@ fn put_refused_change(
     end_answer(text)
 }
 
-/// Appends the line of an append in which the store stopped.
-fn put_stop(text: &mut Vec<u8>, number: u64, kept: bool) -> Result<(), AllocError>
-    ensures { OnOk result (text.new.items ≡ text.old.items ++ answer_lines number (scripts.kept_text kept ∷ [])) }
-{
-    if kept {
-        put_answer(text, number, b" stopped kept")
-    } else {
-        put_answer(text, number, b" stopped lost")
-    }
-}
-
 /// Appends the line of a change. It fails if the answer is lack of memory.
 pub(crate) fn put_change(
     text: &mut Vec<u8>,
@@ -84,7 +73,13 @@ pub(crate) fn put_change(
     match answer {
         JournalAnswer::Done => put_answer(text, number, b" ok"),
         JournalAnswer::Refused(refusal) => put_refused_change(text, number, refusal),
-        JournalAnswer::Stopped(kept) => put_stop(text, number, kept),
+        JournalAnswer::Stopped(kept) => {
+            if kept {
+                put_answer(text, number, b" stopped kept")
+            } else {
+                put_answer(text, number, b" stopped lost")
+            }
+        }
     }
 }
 
