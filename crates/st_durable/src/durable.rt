@@ -77,47 +77,30 @@ fn asked_of_names(op: &NameOp) -> Result<Option<Change>, AllocError>
     }
 }
 
-/// The change that a request asks for, if it is one that changes the stable part.
-fn asked_of(body: &Body) -> Result<Option<Change>, AllocError>
-    ensures { IfOk result (λ change. change ≡ durable.asked_of body.now) }
-{
-    match body {
-        Body::Allocate {
-            ino,
-            page,
-            count,
-            ..
-        } => Ok(Some(Change::Allocate {
-            ino: *ino,
-            page: *page,
-            count: *count,
-        })),
-        Body::Cut { ino, from, .. } => Ok(Some(Change::Cut {
-            ino: *ino,
-            from: *from,
-        })),
-        Body::Name(op) => asked_of_names(op),
-        _ => Ok(None),
-    }
-}
-
 /// The change that an input asks for, with copies of its names.
 fn asked(input: &ServerInput) -> Result<Option<Change>, AllocError>
     ensures { IfOk result (λ change. change ≡ durable.asked input.now) }
 {
     match input {
         ServerInput::Tick => Ok(None),
-        ServerInput::Control(message) => asked_of(&message.body),
-    }
-}
-
-/// 1 if the name is found, and otherwise 0.
-fn found_mark(entries: &Names, dir: u32, name: &Name) -> u64
-    ensures { result ≡ durable.found_mark (names.lookup entries.now dir name.now) }
-{
-    match entries.lookup(dir, name.as_slice()) {
-        Ok(_) => 1,
-        Err(_) => 0,
+        ServerInput::Control(message) => match &message.body {
+            Body::Allocate {
+                ino,
+                page,
+                count,
+                ..
+            } => Ok(Some(Change::Allocate {
+                ino: *ino,
+                page: *page,
+                count: *count,
+            })),
+            Body::Cut { ino, from, .. } => Ok(Some(Change::Cut {
+                ino: *ino,
+                from: *from,
+            })),
+            Body::Name(op) => asked_of_names(op),
+            _ => Ok(None),
+        },
     }
 }
 
@@ -131,7 +114,10 @@ fn mark(stable: &ServerStable, change: &Change) -> u64
         Change::Cut { .. } => u64::from(stable.extents.mapped()),
         Change::Create { .. } | Change::Mkdir { .. } => u64::from(stable.names.next_ino()),
         Change::Remove { dir, name } | Change::Rename { dir, name, .. } => {
-            found_mark(&stable.names, *dir, name)
+            match stable.names.lookup(*dir, name.as_slice()) {
+                Ok(_) => 1,
+                Err(_) => 0,
+            }
         }
     }
 }
@@ -206,26 +192,6 @@ fn step_starved(node: &mut ServerNode, now: Stamp, input: ServerInput) -> Steppe
     }
 }
 
-/// A step of a node that runs.
-fn step_running(node: &mut ServerNode, now: Stamp, input: ServerInput) -> Stepped
-    requires time { now.0 ≤ 2 ^ 62 }
-    requires fits { comes_fit input ≡ true }
-    requires room { HasRoom node.old.state }
-    requires own { IsOwn node.old.state }
-    requires running { node.old.running ≡ true }
-    ensures exact { Steps node.old node.new result.outputs (server.node_step node.old now input) }
-    ensures sent { IfOk result.outputs (λ out. list_all is_sent out ≡ true) }
-    ensures told { Tells node.old.state.stable node.new.state.stable result.changed }
-    ensures asked { IsAsked input result.changed }
-    ensures own { IsOwn node.new.state }
-{
-    match asked(&input) {
-        Ok(Some(change)) => step_asked(node, now, input, change),
-        Ok(None) => step_unasked(node, now, input),
-        Err(_) => step_starved(node, now, input),
-    }
-}
-
 /// A step, and the change that it made.
 #[tactic(auto, unfolding(st_rules::specs::Server::node_step))]
 fn step_told(node: &mut ServerNode, now: Stamp, input: ServerInput) -> Stepped
@@ -240,7 +206,11 @@ fn step_told(node: &mut ServerNode, now: Stamp, input: ServerInput) -> Stepped
     ensures own { IsOwn node.new.state }
 {
     if node.running() {
-        step_running(node, now, input)
+        match asked(&input) {
+            Ok(Some(change)) => step_asked(node, now, input, change),
+            Ok(None) => step_unasked(node, now, input),
+            Err(_) => step_starved(node, now, input),
+        }
     } else {
         Stepped {
             outputs: Err(StepFault::Crashed),
