@@ -2,7 +2,7 @@
 ghost use Rattle.std.specs.Prelude.{◌≡◌, ◌<◌, ◌+◌, IfOk, OnOk, OnErr, Ok, Some, true, ℕ, ◌^◌};
 ghost use Rattle.st_move.specs.Calls as calls;
 ghost use Rattle.st_move.specs.Containers as containers;
-ghost use Rattle.st_move.specs.Updates.{added, is_update};
+ghost use Rattle.st_move.specs.Updates.{is_update};
 
 use crate::refusal::MoveRefusal;
 use crate::updates::Updates;
@@ -117,23 +117,14 @@ impl ContainerRecord {
         }
     }
 
-    /// One more update.
-    #[tactic(auto, unfolding(crate::specs::Containers::updated_with))]
-    fn add(&mut self, update: &[u8]) -> Result<u32, MoveRefusal>
-        requires { is_update update.now ≡ true }
-        ensures { calls.Counts calls.count_in self.old self.new result (containers.updated_with self.old (added self.old.updates update.now)) }
-    {
-        self.updates.push(update)
-    }
-
     /// One more update, if it may come.
-    #[tactic(auto, unfolding(crate::specs::Containers::updated, crate::specs::Containers::changeable))]
+    #[tactic(auto, unfolding(crate::specs::Containers::updated, crate::specs::Containers::updated_with, crate::specs::Containers::changeable))]
     fn put(&mut self, update: &[u8]) -> Result<u32, MoveRefusal>
         requires { is_update update.now ≡ true }
         ensures { calls.Counts calls.count_in self.old self.new result (containers.updated update.now (containers.changeable (Ok self.old))) }
     {
         self.may_change()?;
-        self.add(update)
+        self.updates.push(update)
     }
 
     /// The container must leave, if it may and should go to another server.

@@ -1,5 +1,5 @@
 // What a server sends on a tick.
-ghost use Rattle.std.specs.Prelude.{◌≡◌, ◌++◌, ◌<◌, ◌^◌, ◌+◌, IfOk, OnOk, length, true, if◌then◌else◌};
+ghost use Rattle.std.specs.Prelude.{◌≡◌, ◌++◌, ◌<◌, ◌^◌, ◌+◌, IfOk, OnOk, length, true};
 ghost use Rattle.std.specs.List.{list_all};
 ghost use Rattle.st_move.specs.Calls as calls;
 ghost use Rattle.st_move.specs.Containers as containers;
@@ -48,14 +48,6 @@ pub(crate) fn leaving(
         found.push(leaves(locks, place as u32 + 1, &records[place])?)?;
     }
     Ok(found)
-}
-
-/// The version after a tick.
-fn next_version(version: u64, yes: bool) -> u64
-    requires { version + 1 < 2 ^ 64 }
-    ensures { result ≡ (if yes then version + 1 else version) }
-{
-    if yes { version + 1 } else { version }
 }
 
 /// The image that the record sends, if it leaves now or was sent before.
