@@ -46,22 +46,6 @@ pub(crate) enum Job {
     Node(NodeId),
 }
 
-fn command_in(word: &[u8]) -> Option<Command>
-    ensures { result ≡ words_of.command_in word.now }
-{
-    if word == JOURNAL {
-        Some(Command::Journal)
-    } else if word == MOVE {
-        Some(Command::Move)
-    } else if word == SNAP {
-        Some(Command::Snap)
-    } else if word == SHARED {
-        Some(Command::Shared)
-    } else {
-        None
-    }
-}
-
 /// The value of a word of digits without a leading zero, if it is at most `most`.
 fn number(most: u64, word: &[u8]) -> Option<u64>
     ensures value { result ≡ words.plain 0 most word.now }
@@ -74,19 +58,27 @@ fn number(most: u64, word: &[u8]) -> Option<u64>
     }
 }
 
+/// What a word asks for by itself: a replay, or a script.
 fn alone(word: &[u8]) -> Option<Job>
     ensures exact { result ≡ words_of.alone word.now }
     ensures range { IfSome result IsInRange }
 {
     if word == REPLAY {
-        return Some(Job::Replay);
-    }
-    match command_in(word) {
-        Some(command) => Some(Job::Script(command)),
-        None => None,
+        Some(Job::Replay)
+    } else if word == JOURNAL {
+        Some(Job::Script(Command::Journal))
+    } else if word == MOVE {
+        Some(Job::Script(Command::Move))
+    } else if word == SNAP {
+        Some(Job::Script(Command::Snap))
+    } else if word == SHARED {
+        Some(Job::Script(Command::Shared))
+    } else {
+        None
     }
 }
 
+/// What a word asks for with a length and a seed.
 fn numbered(word: &[u8], n: &[u8], seed: &[u8]) -> Option<Job>
     ensures exact { result ≡ words_of.numbered word.now (words_of.length_of n.now) (words_of.seed_of seed.now) }
     ensures range { IfSome result IsInRange }
