@@ -2,20 +2,12 @@
 ghost use Rattle.std.specs.Prelude.{◌≡◌, length};
 ghost use Rattle.st_client_association.specs.AwaitedGrants.{is_awaited, is_awaited_by};
 ghost use Rattle.st_client_association.specs.Counts.{locks_in, waits_in};
-ghost use Rattle.st_rules.specs.ClientState as client;
 
 use crate::association::Association;
+use crate::busy_files::is_open;
 use st_base::ServerId;
 use st_client_session::Session;
-use st_operations::{Awaiting, Operations, SentOn, is_file};
-
-/// Whether a file is neither demanded nor busy.
-fn is_open(operations: &Operations, server: ServerId, session: &Session, ino: u32) -> bool
-    ensures { result ≡ client.is_open operations.now server session.now.session ino }
-{
-    !session.is_demanded(ino)
-        && !(is_file(ino, session.cutting()) || operations.any(&SentOn { server, ino }))
-}
+use st_operations::{Awaiting, Operations};
 
 /// Whether an operation on an open file waits for a lock, or for what else it needs with the one
 /// that is held.

@@ -3,6 +3,7 @@
 #![tactic(auto)]
 
 mod association;
+mod busy_files;
 mod command_ends;
 mod counts;
 mod dirty_row;
@@ -16,5 +17,6 @@ mod stores;
 mod turn;
 
 pub use association::Association;
+pub use busy_files::{is_busy, is_open};
 pub use dirty_row::DirtyRow;
 pub use turn::Turn;

@@ -1,8 +1,7 @@
-// The session of a step: look-ups, and what its rules change.
-ghost use Rattle.std.specs.Prelude.{◌≡◌, ◌≤◌, ◌^◌, true, false, None, IfOk, OnOk, is_some, option_map};
+// The session of a step: what its rules change.
+ghost use Rattle.std.specs.Prelude.{◌≡◌, ◌≤◌, ◌^◌, true, false, None, IfOk, OnOk, option_map};
 ghost use Rattle.st_client_association.specs.Turns.{Reduces, SendsAgain, TakesRelease, again_if_due, has_session, session_of};
 ghost use Rattle.st_requests.specs.ServerRequests.{body_of};
-ghost use Rattle.st_rules.specs.Client.{is_any};
 ghost use Rattle.st_rules.specs.ClientInvariants.{lasts_here};
 ghost use Rattle.st_rules.specs.ClientLease as leases;
 ghost use Rattle.st_rules.specs.ClientLocks as locks;
@@ -12,127 +11,12 @@ ghost use Rattle.st_rules.specs.ClientState as client;
 
 use crate::outputs::count;
 use crate::turn::Turn;
-use st_base::{Epoch, GrantNo, LockRows, Mode, Stamp};
+use st_base::{Epoch, GrantNo, Mode, Stamp};
 use st_messages::{Body, Message, Output};
-use st_operations::{Operations, SentOn, is_file};
-use st_rules::{Asked, HeldLock, LockWait, Phase, Release, StandingKind};
+use st_rules::{Asked, Release};
 use std::alloc::AllocError;
 
 impl Turn {
-    /// Whether the lease is valid or in renewal.
-    pub fn is_serving(&self, now: Stamp) -> bool
-        requires { has_session self.now ≡ true }
-        ensures { result ≡ client.is_serving self.now.config (session_of self.now) now }
-    {
-        self.session().is_serving(now)
-    }
-
-    /// What the lease permits.
-    pub fn standing(&self, now: Stamp) -> StandingKind
-        requires { has_session self.now ≡ true }
-        ensures { result ≡ leases.standing_of self.now.config (session_of self.now).lease now }
-    {
-        self.session().standing(now)
-    }
-
-    /// The phase of the lease.
-    pub fn phase(&self, now: Stamp) -> Phase
-        requires { has_session self.now ≡ true }
-        ensures { result ≡ leases.phase_of self.now.config (session_of self.now).lease now }
-    {
-        self.session().phase(now)
-    }
-
-    /// Whether the lease is condemned.
-    pub fn is_condemned(&self) -> bool
-        requires { has_session self.now ≡ true }
-        ensures { result ≡ (session_of self.now).lease.condemned }
-    {
-        self.session().is_condemned()
-    }
-
-    /// Whether the locks must be reasserted.
-    pub fn is_due(&self) -> bool
-        requires { has_session self.now ≡ true }
-        ensures { result ≡ (session_of self.now).due }
-    {
-        self.session().is_due()
-    }
-
-    /// The mode in which the file is held.
-    pub fn mode(&self, ino: u32) -> Mode
-        requires { has_session self.now ≡ true }
-        ensures { result ≡ locks.mode_of (session_of self.now).locks ino }
-    {
-        self.session().mode(ino)
-    }
-
-    /// The lock on the file, if one is held.
-    pub fn lock(&self, ino: u32) -> Option<HeldLock>
-        requires { has_session self.now ≡ true }
-        ensures { result ≡ locks.lock_of (session_of self.now).locks ino }
-    {
-        self.session().lock(ino)
-    }
-
-    /// Whether the file is demanded.
-    pub fn is_demanded(&self, ino: u32) -> bool
-        requires { has_session self.now ≡ true }
-        ensures { result ≡ locks.is_demanded (session_of self.now).locks ino }
-    {
-        self.session().is_demanded(ino)
-    }
-
-    /// The wait for the file, if one was reported.
-    pub fn wait_of(&self, ino: u32) -> Option<LockWait>
-        requires { has_session self.now ≡ true }
-        ensures { result ≡ client.wait_of (session_of self.now).waits ino }
-    {
-        self.session().wait_of(ino)
-    }
-
-    /// Whether a cut or a remove of the file was sent and not answered, by the outstanding request
-    /// and these operations.
-    pub fn is_busy(&self, operations: &Operations, ino: u32) -> bool
-        requires { has_session self.now ≡ true }
-        ensures { result ≡ client.is_busy operations.now self.now.here.server (session_of self.now) ino }
-    {
-        let server = self.here.server;
-        is_file(ino, self.session().cutting()) || operations.any(&SentOn { server, ino })
-    }
-
-    /// Whether a request is outstanding.
-    pub fn is_waiting(&self) -> bool
-        requires { has_session self.now ≡ true }
-        ensures { result ≡ is_some (session_of self.now).requests.asked }
-    {
-        self.session().has_asked()
-    }
-
-    /// Whether a file is demanded. It does not allocate.
-    pub fn has_demands(&self) -> bool
-        requires { has_session self.now ≡ true }
-        ensures { result ≡ is_any (session_of self.now).locks.demanded }
-    {
-        self.session().has_demands()
-    }
-
-    /// The files that are demanded, in rising order.
-    pub fn demanded_files(&self) -> Result<Vec<u32>, AllocError>
-        requires { has_session self.now ≡ true }
-        ensures { IfOk result (λ v. v.items ≡ locks.demanded_files (session_of self.now).locks) }
-    {
-        self.session().demanded_files()
-    }
-
-    /// All locks, by rising file.
-    pub fn all_locks(&self) -> Result<LockRows, AllocError>
-        requires { has_session self.now ≡ true }
-        ensures { IfOk result (λ v. v ≡ locks.all_locks (session_of self.now).locks) }
-    {
-        Ok(LockRows::from_vec(self.session().all_locks()?))
-    }
-
     /// The wait for the file is forgotten. It does not allocate.
     pub fn forget_wait(&mut self, ino: u32)
         requires { has_session self.old ≡ true }

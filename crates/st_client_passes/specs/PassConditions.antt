@@ -8,7 +8,7 @@ use Rattle.st_rules.specs.declared.client.Operation.{Operation}
 use Rattle.st_rules.specs.Client.{lease_of_session}
 use Rattle.st_rules.specs.ClientLease.{ClientLease, may_drain, standing_of}
 use Rattle.st_rules.specs.ClientLocks.{demanded_files}
-use Rattle.st_rules.specs.ClientState.{Turn, is_cut_or_name, is_of, is_sent, is_serving, is_sync, keep}
+use Rattle.st_rules.specs.ClientState.{ClientSession, Turn, is_cut_or_name, is_of, is_sent, is_serving, is_sync, keep}
 use Rattle.st_client_association.specs.Turns.{session_of}
 
 -- the operation stays pending, or it was answered
@@ -32,8 +32,8 @@ abbrev pub is_serving_at : Turn → Stamp → Bool
 is_serving_at t now = is_serving t.config (session_of t) now
 
 -- no file is demanded, and no operation waits for pages
-pub record MayRest (t : Turn) : Type 0 where
-  pub demanded : demanded_files (session_of t).locks ≡ []
+pub record MayRest (t : Turn) (s : ClientSession) : Type 0 where
+  pub demanded : demanded_files s.locks ≡ []
   pub waiting : list_any (wants_writes t.here.server) t.operations ≡ false
 
 -- the settings and the session are the same

@@ -3,7 +3,7 @@ use Rattle.std.specs.Prelude.{ℕ, Bool, if◌then◌else◌, List, [], ◌∷�
 use Rattle.st_base.specs.declared.ids.Stamp.{Stamp}
 use Rattle.st_rules.specs.declared.client.Operation.{Operation}
 use Rattle.st_rules.specs.ClientPasses.{Asking, Wanted, asked_by, behind}
-use Rattle.st_rules.specs.ClientState.{Turn}
+use Rattle.st_rules.specs.ClientState.{ClientSession, Turn}
 use Rattle.st_client_association.specs.Turns.{session_of}
 use Rattle.st_operations.specs.PendingOperations.{marked}
 
@@ -20,9 +20,9 @@ abbrev pub asking_at : List Operation → ℕ × Wanted → Asking
 asking_at os x = record { wanted = x.1; operations = marked_if x.1.own x.0 os }
 
 -- what the operation at a place asks, if there is one
-abbrev pub asked_at : Turn → Stamp → Option Operation → Option Wanted
-asked_at t now None = None
-asked_at t now (Some o) = asked_by t (session_of t) now o
+abbrev pub asked_at : Turn → ClientSession → Stamp → Option Operation → Option Wanted
+asked_at t s now None = None
+asked_at t s now (Some o) = asked_by t s now o
 
 -- what later ones ask, after these
 abbrev pub behind_all : List Operation → Option Asking → Option Asking

@@ -1,7 +1,6 @@
 // What the pending operations ask of a server: the first that asks is sent.
-ghost use Rattle.std.specs.Prelude.{◌≡◌, true, IfOk, slice_get};
+ghost use Rattle.std.specs.Prelude.{◌≡◌, IfOk, slice_get};
 ghost use Rattle.std.specs.Option.{option_map};
-ghost use Rattle.st_client_association.specs.Turns.{has_session, session_of};
 ghost use Rattle.st_rules.specs.ClientLocks as locks;
 ghost use Rattle.st_rules.specs.ClientPasses as passes;
 ghost use Rattle.st_client_passes.specs.Requests.{asked_at, asking_at};
@@ -11,6 +10,7 @@ use crate::operations::is_open_file;
 use crate::wants::{Wanted, on_behalf, wanted_cut, wanted_itself};
 use st_base::{GrantNo, Mode, NameAsk, PageNo, Stamp};
 use st_client_association::Turn;
+use st_client_session::Session;
 use st_messages::{Ask, Body, NameOp};
 use st_operations::{file_of, is_of, is_sent};
 use st_rules::{LockWait, Operation};
@@ -38,11 +38,10 @@ fn is_wait_old(t: &Turn, now: Stamp, mode: Mode, wait: Option<LockWait>) -> bool
 }
 
 #[tactic(auto, unfolding(st_rules::specs::ClientPasses::want_lock))]
-fn want_lock(t: &Turn, now: Stamp, ino: u32, mode: Mode) -> Option<Wanted>
-    requires { has_session t.now ≡ true }
-    ensures { result ≡ passes.want_lock t.now (session_of t.now) now ino mode }
+fn want_lock(t: &Turn, session: &Session, now: Stamp, ino: u32, mode: Mode) -> Option<Wanted>
+    ensures { result ≡ passes.want_lock t.now session.now.session now ino mode }
 {
-    if is_wait_old(t, now, mode, t.wait_of(ino)) {
+    if is_wait_old(t, now, mode, session.wait_of(ino)) {
         on_behalf(Body::Acquire { ino, mode })
     } else {
         None
@@ -158,17 +157,22 @@ fn want_held(t: &Turn, ask: &Ask, ino: u32, g: GrantNo) -> Result<Option<Wanted>
 }
 
 #[tactic(auto, unfolding(st_rules::specs::ClientPasses::want_on, st_rules::specs::ClientPasses::want_by, st_rules::specs::ClientPasses::want_under))]
-fn want_on(t: &Turn, now: Stamp, ask: &Ask, ino: u32) -> Result<Option<Wanted>, AllocError>
-    requires { has_session t.now ≡ true }
-    ensures { IfOk result (λ w. w ≡ passes.want_on t.now (session_of t.now) now ask.now ino) }
+fn want_on(
+    t: &Turn,
+    session: &Session,
+    now: Stamp,
+    ask: &Ask,
+    ino: u32,
+) -> Result<Option<Wanted>, AllocError>
+    ensures { IfOk result (λ w. w ≡ passes.want_on t.now session.now.session now ask.now ino) }
 {
-    match t.lock(ino) {
-        None => Ok(want_lock(t, now, ino, need(ask))),
+    match session.lock(ino) {
+        None => Ok(want_lock(t, session, now, ino, need(ask))),
         Some(lock) => {
             if lock.mode.covers(need(ask)) {
                 want_held(t, ask, ino, lock.g)
             } else {
-                Ok(want_lock(t, now, ino, need(ask)))
+                Ok(want_lock(t, session, now, ino, need(ask)))
             }
         }
     }
@@ -186,58 +190,69 @@ fn want_name(ask: &Ask) -> Result<Option<Wanted>, AllocError>
 }
 
 #[tactic(auto, unfolding(st_rules::specs::ClientPasses::want, st_rules::specs::ClientPasses::want_at))]
-fn want(t: &Turn, now: Stamp, ask: &Ask) -> Result<Option<Wanted>, AllocError>
-    requires { has_session t.now ≡ true }
-    ensures { IfOk result (λ w. w ≡ passes.want t.now (session_of t.now) now ask.now) }
+fn want(t: &Turn, session: &Session, now: Stamp, ask: &Ask) -> Result<Option<Wanted>, AllocError>
+    ensures { IfOk result (λ w. w ≡ passes.want t.now session.now.session now ask.now) }
 {
     match ask {
         Ask::Sync(_) => Ok(None),
         _ => match file_of(ask) {
             None => want_name(ask),
-            Some(ino) => want_on(t, now, ask, ino),
+            Some(ino) => want_on(t, session, now, ask, ino),
         },
     }
 }
 
 /// Whether the operation is of this server, was not sent, and is on a file that is neither demanded
 /// nor busy, or on none.
-fn may_ask(t: &Turn, o: &Operation) -> bool
-    requires { has_session t.now ≡ true }
-    ensures { result ≡ passes.may_ask t.now (session_of t.now) o.now }
+fn may_ask(t: &Turn, session: &Session, o: &Operation) -> bool
+    ensures { result ≡ passes.may_ask t.now session.now.session o.now }
 {
-    is_of(t.server(), o) && (!is_sent(o) && is_open_file(t.operations(), t, file_of(&o.ask)))
+    let server = t.server();
+    is_of(server, o)
+        && (!is_sent(o) && is_open_file(t.operations(), server, session, file_of(&o.ask)))
 }
 
 #[tactic(auto, unfolding(st_rules::specs::ClientPasses::asked_by))]
-fn asked_by(t: &Turn, now: Stamp, o: &Operation) -> Result<Option<Wanted>, AllocError>
-    requires { has_session t.now ≡ true }
-    ensures { IfOk result (λ w. w ≡ passes.asked_by t.now (session_of t.now) now o.now) }
+fn asked_by(
+    t: &Turn,
+    session: &Session,
+    now: Stamp,
+    o: &Operation,
+) -> Result<Option<Wanted>, AllocError>
+    ensures { IfOk result (λ w. w ≡ passes.asked_by t.now session.now.session now o.now) }
 {
-    if may_ask(t, o) {
-        want(t, now, &o.ask)
+    if may_ask(t, session, o) {
+        want(t, session, now, &o.ask)
     } else {
         Ok(None)
     }
 }
 
 /// What the operation at a place asks.
-fn asked_at(t: &Turn, now: Stamp, place: usize) -> Result<Option<Wanted>, AllocError>
-    requires { has_session t.now ≡ true }
-    ensures { IfOk result (λ w. w ≡ asked_at t.now now (slice_get t.now.operations place)) }
+fn asked_at(
+    t: &Turn,
+    session: &Session,
+    now: Stamp,
+    place: usize,
+) -> Result<Option<Wanted>, AllocError>
+    ensures { IfOk result (λ w. w ≡ asked_at t.now session.now.session now (slice_get t.now.operations place)) }
 {
     match t.operations().get(place) {
         None => Ok(None),
-        Some(o) => asked_by(t, now, o),
+        Some(o) => asked_by(t, session, now, o),
     }
 }
 
 /// The place of the first operation that asks, and what it asks.
-pub fn first_asking(t: &Turn, now: Stamp) -> Result<Option<(usize, Wanted)>, AllocError>
-    requires { has_session t.now ≡ true }
-    ensures { IfOk result (λ found. option_map (asking_at t.now.operations) found ≡ passes.first_asking t.now (session_of t.now) now t.now.operations) }
+pub fn first_asking(
+    t: &Turn,
+    session: &Session,
+    now: Stamp,
+) -> Result<Option<(usize, Wanted)>, AllocError>
+    ensures { IfOk result (λ found. option_map (asking_at t.now.operations) found ≡ passes.first_asking t.now session.now.session now t.now.operations) }
 {
     for i in 0..t.operations().len() {
-        match asked_at(t, now, i)? {
+        match asked_at(t, session, now, i)? {
             Some(wanted) => return Ok(Some((i, wanted))),
             None => {}
         }

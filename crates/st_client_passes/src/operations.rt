@@ -8,8 +8,9 @@ ghost use Rattle.st_client_passes.specs.PassConditions.{is_serving_at, put_back}
 
 use crate::page_changes::{answer, patch, write};
 use crate::page_reads::read;
-use st_base::Stamp;
-use st_client_association::Turn;
+use st_base::{ServerId, Stamp};
+use st_client_association::{Turn, is_open};
+use st_client_session::Session;
 use st_messages::{AppAnswer, Ask};
 use st_operations::{Operations, file_of, is_of, is_sent};
 use st_rules::Operation;
@@ -33,13 +34,17 @@ fn serve_open(t: &mut Turn, now: Stamp, o: &Operation) -> Result<bool, AllocErro
 }
 
 /// Whether the file, if there is one, is neither demanded nor busy by these operations.
-pub fn is_open_file(all: &Operations, t: &Turn, file: Option<u32>) -> bool
-    requires { has_session t.now ≡ true }
-    ensures { result ≡ client_state.is_open_file all.now t.now.here.server (session_of t.now) file }
+pub fn is_open_file(
+    all: &Operations,
+    server: ServerId,
+    session: &Session,
+    file: Option<u32>,
+) -> bool
+    ensures { result ≡ client_state.is_open_file all.now server session.now.session file }
 {
     match file {
         None => true,
-        Some(ino) => !t.is_demanded(ino) && !t.is_busy(all, ino),
+        Some(ino) => is_open(all, server, session, ino),
     }
 }
 
@@ -56,8 +61,8 @@ fn operate_under(
     ensures left { OnOk result (t.new.operations ≡ t.old.operations) }
     ensures stays { IfOk result (λ stays. put_back o.now stays t.new ≡ passes.operate_under all.now t.old (session_of t.old) now o.now) }
 {
-    if t.is_serving(now) {
-        if is_open_file(all, t, file_of(&o.ask)) {
+    if t.session().is_serving(now) {
+        if is_open_file(all, t.server(), t.session(), file_of(&o.ask)) {
             serve_open(t, now, o)
         } else {
             Ok(true)

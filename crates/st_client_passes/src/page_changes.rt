@@ -10,6 +10,7 @@ ghost use Rattle.st_client_passes.specs.PassConditions.{is_serving_at, put_back}
 use crate::page_reads::fetch;
 use st_base::{FileId, Mode, PageBytes, PageNo, Stamp};
 use st_client_association::Turn;
+use st_client_session::Session;
 use st_messages::{AppAnswer, Note, PatchBytes};
 use st_rules::Operation;
 use std::alloc::{AllocError, Global};
@@ -47,19 +48,17 @@ fn change_page(
 }
 
 /// Whether the file is held in this mode.
-pub fn holds(t: &Turn, mode: Mode, file: FileId) -> bool
-    requires { has_session t.now ≡ true }
-    ensures { result ≡ passes.holds (session_of t.now) mode file }
+pub fn holds(session: &Session, mode: Mode, file: FileId) -> bool
+    ensures { result ≡ passes.holds session.now.session mode file }
 {
-    t.mode(file.ino).covers(mode)
+    session.mode(file.ino).covers(mode)
 }
 
 /// Whether the page is mapped, and may be changed.
-fn may_write(t: &Turn, file: FileId, page: PageNo) -> bool
-    requires { has_session t.now ≡ true }
-    ensures { result ≡ passes.may_write t.now (session_of t.now) file page }
+fn may_write(t: &Turn, session: &Session, file: FileId, page: PageNo) -> bool
+    ensures { result ≡ passes.may_write t.now session.now.session file page }
 {
-    holds(t, Mode::X, file) && t.mapping(file.ino, page).is_some()
+    holds(session, Mode::X, file) && t.mapping(file.ino, page).is_some()
 }
 
 #[tactic(auto, unfolding(st_rules::specs::ClientPasses::write))]
@@ -76,7 +75,7 @@ pub fn write(
     ensures left { OnOk result (t.new.operations ≡ t.old.operations) }
     ensures stays { IfOk result (λ stays. put_back o.now stays t.new ≡ passes.write t.old (session_of t.old) o.now file page bytes.now) }
 {
-    if may_write(t, file, page) {
+    if may_write(t, t.session(), file, page) {
         let note = Note::Accepted {
             file,
             page,
@@ -157,7 +156,7 @@ pub fn patch(
     ensures left { OnOk result (t.new.operations ≡ t.old.operations) }
     ensures stays { IfOk result (λ stays. put_back o.now stays t.new ≡ passes.patch t.old (session_of t.old) o.now file page at bytes.now) }
 {
-    if may_write(t, file, page) {
+    if may_write(t, t.session(), file, page) {
         match t.base(now, file.ino, page)? {
             None => fetch(t, now, o, file, page),
             Some(old) => patch_bytes(t, now, o, file, page, at, bytes, &old),

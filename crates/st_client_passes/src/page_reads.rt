@@ -88,7 +88,7 @@ pub fn read(
     ensures left { OnOk result (t.new.operations ≡ t.old.operations) }
     ensures stays { IfOk result (λ stays. put_back o.now stays t.new ≡ passes.read t.old (session_of t.old) o.now file page) }
 {
-    if holds(t, Mode::S, file) {
+    if holds(t.session(), Mode::S, file) {
         read_held(t, now, o, file, page)
     } else {
         Ok(true)

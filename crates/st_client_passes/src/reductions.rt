@@ -6,7 +6,8 @@ ghost use Rattle.st_rules.specs.ClientPasses as passes;
 ghost use Rattle.st_rules.specs.ClientState as client_state;
 
 use st_base::{GrantNo, Mode, PageNo};
-use st_client_association::Turn;
+use st_client_association::{Turn, is_busy};
+use st_client_session::Session;
 use std::alloc::AllocError;
 
 /// If the lock is gone, the clean pages and extents of the file go too.
@@ -40,11 +41,10 @@ fn reduce_by(t: &mut Turn, ino: u32) -> Result<(), AllocError>
     }
 }
 
-fn may_reduce(t: &Turn, ino: u32) -> bool
-    requires { has_session t.now ≡ true }
-    ensures { result ≡ passes.may_reduce t.now (session_of t.now) ino }
+fn may_reduce(t: &Turn, session: &Session, ino: u32) -> bool
+    ensures { result ≡ passes.may_reduce t.now session.now.session ino }
 {
-    t.is_idle(ino) && !t.is_busy(t.operations(), ino)
+    t.is_idle(ino) && !is_busy(t.operations(), t.server(), session, ino)
 }
 
 #[tactic(auto, unfolding(st_rules::specs::ClientPasses::reduce_idle))]
@@ -52,7 +52,7 @@ fn reduce_idle(t: &mut Turn, ino: u32) -> Result<(), AllocError>
     requires { has_session t.old ≡ true }
     ensures { OnOk result (t.new ≡ passes.reduce_idle t.old (session_of t.old) ino) }
 {
-    if may_reduce(t, ino) {
+    if may_reduce(t, t.session(), ino) {
         reduce_by(t, ino)
     } else {
         Ok(())
@@ -85,7 +85,7 @@ fn reduce_all(t: &mut Turn) -> Result<(), AllocError>
     requires { has_session t.old ≡ true }
     ensures { OnOk result (t.new ≡ passes.reductions t.old) }
 {
-    let files = t.demanded_files()?;
+    let files = t.session().demanded_files()?;
     reduce_each(t, files.as_slice())
 }
 
@@ -94,7 +94,7 @@ fn reduce_demanded(t: &mut Turn) -> Result<(), AllocError>
     requires { has_session t.old ≡ true }
     ensures { OnOk result (t.new ≡ passes.reductions t.old) }
 {
-    if t.has_demands() {
+    if t.session().has_demands() {
         reduce_all(t)
     } else {
         Ok(())

@@ -8,7 +8,7 @@ ghost use Rattle.st_client_passes.specs.Requests.{asking_at, is_free, marked_if}
 
 use crate::next_request::first_asking;
 use crate::wants::Wanted;
-use st_base::{PageNo, Stamp};
+use st_base::{LockRows, PageNo, Stamp};
 use st_client_association::Turn;
 use st_messages::Body;
 use st_rules::Phase;
@@ -32,7 +32,7 @@ fn keep_alive(t: &mut Turn, now: Stamp) -> Result<(), AllocError>
     requires free { is_free t.old ≡ true }
     ensures { OnOk result (t.new ≡ passes.keep_alive t.old (session_of t.old) now) }
 {
-    if is_renewing(t.phase(now)) {
+    if is_renewing(t.session().phase(now)) {
         t.ask(now, Body::KeepAlive, None)
     } else {
         Ok(())
@@ -83,7 +83,7 @@ fn ask_for_or(t: &mut Turn, now: Stamp) -> Result<(), AllocError>
     requires free { is_free t.old ≡ true }
     ensures { OnOk result (t.new ≡ passes.ask_for_or t.old (session_of t.old) now (passes.first_asking t.old (session_of t.old) now t.old.operations)) }
 {
-    match first_asking(t, now)? {
+    match first_asking(t, t.session(), now)? {
         None => keep_alive(t, now),
         Some((place, wanted)) => ask_for(t, now, place, wanted),
     }
@@ -95,7 +95,7 @@ fn ask_next(t: &mut Turn, now: Stamp) -> Result<(), AllocError>
     requires free { is_free t.old ≡ true }
     ensures { OnOk result (t.new ≡ passes.ask_next t.old (session_of t.old) now) }
 {
-    if t.is_serving(now) {
+    if t.session().is_serving(now) {
         ask_for_or(t, now)
     } else {
         keep_alive(t, now)
@@ -128,8 +128,8 @@ fn ask_new(t: &mut Turn, now: Stamp) -> Result<(), AllocError>
     requires free { is_free t.old ≡ true }
     ensures { OnOk result (t.new ≡ passes.ask_new t.old (session_of t.old) now) }
 {
-    if t.is_due() {
-        let rows = t.all_locks()?;
+    if t.session().is_due() {
+        let rows = LockRows::from_vec(t.session().all_locks()?);
         t.ask(now, Body::Reassert(rows), None)
     } else {
         ask_by(t, now)
@@ -150,7 +150,7 @@ fn requests_at(t: &mut Turn, now: Stamp, tick: bool) -> Result<(), AllocError>
     requires session { has_session t.old ≡ true }
     ensures { OnOk result (t.new ≡ passes.requests_at t.old (session_of t.old) now tick (session_of t.old).requests.asked) }
 {
-    if t.is_waiting() {
+    if t.session().has_asked() {
         repeat(t, now, tick)
     } else {
         ask_new(t, now)
@@ -163,7 +163,7 @@ fn requests_under(t: &mut Turn, now: Stamp, tick: bool) -> Result<(), AllocError
     requires session { has_session t.old ≡ true }
     ensures { OnOk result (t.new ≡ passes.requests_under t.old (session_of t.old) now tick) }
 {
-    if t.is_condemned() {
+    if t.session().is_condemned() {
         Ok(())
     } else {
         requests_at(t, now, tick)

@@ -10,6 +10,7 @@ ghost use Rattle.st_client_passes.specs.PassConditions.{MayRest, drains_at};
 
 use st_base::{Mode, PageNo, ServerId, Stamp};
 use st_client_association::{DirtyRow, Turn};
+use st_client_session::Session;
 use st_operations::{CutOn, SyncOn, Test, is_cut_or_name, is_of, is_sent, is_sync};
 use st_rules::{Operation, StandingKind};
 use std::alloc::AllocError;
@@ -32,28 +33,26 @@ impl Test<Operation> for WantsWrites {
 }
 
 /// Whether a cut or a remove waits for the file's pages.
-fn is_cut_wanted(t: &Turn, ino: u32) -> bool
-    requires { has_session t.now ≡ true }
-    ensures { result ≡ passes.is_cut_wanted t.now (session_of t.now) ino }
+fn is_cut_wanted(t: &Turn, session: &Session, ino: u32) -> bool
+    ensures { result ≡ passes.is_cut_wanted t.now session.now.session ino }
 {
     let cut = CutOn {
         server: t.server(),
         ino,
     };
-    t.mode(ino).covers(Mode::X) && t.operations().any(&cut)
+    session.mode(ino).covers(Mode::X) && t.operations().any(&cut)
 }
 
 /// Whether the file is demanded, has a pending sync, or has a pending unsent cut or remove and an
 /// exclusive lock.
-fn is_wanted(t: &Turn, ino: u32) -> bool
-    requires { has_session t.now ≡ true }
-    ensures { result ≡ passes.is_wanted t.now (session_of t.now) ino }
+fn is_wanted(t: &Turn, session: &Session, ino: u32) -> bool
+    ensures { result ≡ passes.is_wanted t.now session.now.session ino }
 {
     let sync = SyncOn {
         server: t.server(),
         ino,
     };
-    t.is_demanded(ino) || (t.operations().any(&sync) || is_cut_wanted(t, ino))
+    session.is_demanded(ino) || (t.operations().any(&sync) || is_cut_wanted(t, session, ino))
 }
 
 /// Whether all dirty pages are submitted: the lease is in flush.
@@ -61,7 +60,7 @@ fn drains(t: &Turn, now: Stamp) -> bool
     requires { has_session t.now ≡ true }
     ensures { result ≡ drains_at t.now now }
 {
-    match t.standing(now) {
+    match t.session().standing(now) {
         StandingKind::Drain => true,
         _ => false,
     }
@@ -75,7 +74,7 @@ fn is_due(t: &Turn, now: Stamp, tick: bool, page: &DirtyRow<'_>) -> bool
     if drains(t, now) {
         !page.has_failed()
     } else {
-        is_wanted(t, page.ino()) && (!page.has_failed() || tick)
+        is_wanted(t, t.session(), page.ino()) && (!page.has_failed() || tick)
     }
 }
 
@@ -163,12 +162,11 @@ fn write_all(t: &mut Turn, now: Stamp, tick: bool) -> Result<(), AllocError>
 }
 
 /// Whether a file is wanted: one is demanded, or an operation waits for its pages.
-fn wants(t: &Turn) -> bool
-    requires { has_session t.now ≡ true }
-    ensures { result ≡ false → MayRest t.now }
+fn wants(t: &Turn, session: &Session) -> bool
+    ensures { result ≡ false → MayRest t.now session.now.session }
 {
     let here = WantsWrites { server: t.server() };
-    t.has_demands() || t.operations().any(&here)
+    session.has_demands() || t.operations().any(&here)
 }
 
 /// In other phases than flush: if no file is wanted, no page is looked at.
@@ -178,7 +176,7 @@ fn write_wanted(t: &mut Turn, now: Stamp, tick: bool) -> Result<(), AllocError>
     requires other { drains_at t.old now ≡ false }
     ensures { OnOk result (t.new ≡ passes.writes now tick t.old) }
 {
-    if wants(t) {
+    if wants(t, t.session()) {
         write_all(t, now, tick)
     } else {
         Ok(())

@@ -6,6 +6,7 @@ ghost use Rattle.st_rules.specs.ClientReplies as replies;
 use crate::refusals::refused;
 use st_base::{ExtentRow, GrantNo, Mode, Stamp};
 use st_client_association::Turn;
+use st_client_session::Session;
 use st_messages::{AppAnswer, Body, NameReply};
 use st_operations::RequestingOperation;
 use st_rules::HeldLock;
@@ -48,13 +49,12 @@ fn is_grant(g: GrantNo, lock: Option<HeldLock>) -> bool
 }
 
 /// Whether the file's lock has the grant of the request.
-fn is_current(turn: &Turn, asked: &Body) -> bool
-    requires { has_session turn.now ≡ true }
-    ensures { result ≡ replies.is_current (session_of turn.now).locks asked.now }
+fn is_current(session: &Session, asked: &Body) -> bool
+    ensures { result ≡ replies.is_current session.now.session.locks asked.now }
 {
     match asked {
-        Body::Map { ino, g, .. } => is_grant(*g, turn.lock(*ino)),
-        Body::Allocate { ino, g, .. } => is_grant(*g, turn.lock(*ino)),
+        Body::Map { ino, g, .. } => is_grant(*g, session.lock(*ino)),
+        Body::Allocate { ino, g, .. } => is_grant(*g, session.lock(*ino)),
         _ => false,
     }
 }
@@ -64,7 +64,7 @@ fn extents(turn: &mut Turn, ino: u32, rows: &[ExtentRow], asked: &Body) -> Resul
     requires { has_session turn.old ≡ true }
     ensures { OnOk result (turn.new ≡ replies.extents turn.old (session_of turn.old) ino rows.now asked.now) }
 {
-    if is_current(turn, asked) {
+    if is_current(turn.session(), asked) {
         learn(turn, ino, rows, asked)
     } else {
         Ok(())
@@ -98,7 +98,7 @@ fn removed(turn: &mut Turn, file: Option<u32>) -> Result<(), AllocError>
 {
     match file {
         None => Ok(()),
-        Some(ino) => match turn.lock(ino) {
+        Some(ino) => match turn.session().lock(ino) {
             None => Ok(()),
             Some(lock) => drop_lock(turn, ino, lock),
         },

@@ -5,6 +5,7 @@ ghost use Rattle.st_rules.specs.ClientReplies as replies;
 
 use st_base::{Epoch, Stamp};
 use st_client_association::Turn;
+use st_client_session::Session;
 use st_messages::{AppAnswer, Body, Header, Note, Why};
 use st_operations::RequestingOperation;
 use std::alloc::AllocError;
@@ -78,11 +79,9 @@ fn follow_epoch(turn: &mut Turn, epoch: Epoch) -> Result<(), AllocError>
 }
 
 /// Whether it is a later epoch, and the lease was not condemned.
-fn is_newer(turn: &Turn, epoch: Epoch) -> bool
-    requires { has_session turn.now ≡ true }
-    ensures { result ≡ replies.is_newer (session_of turn.now) epoch }
+fn is_newer(session: &Session, epoch: Epoch) -> bool
+    ensures { result ≡ replies.is_newer session.now.session epoch }
 {
-    let session = turn.session();
     session.epoch().0 < epoch.0 && !session.is_condemned()
 }
 
@@ -95,7 +94,7 @@ pub fn of_other_epoch(turn: &mut Turn, epoch: Epoch, body: &Body) -> Result<(), 
     match body {
         Body::Nack { why, .. } => match *why {
             Why::OtherEpoch => {
-                if is_newer(turn, epoch) {
+                if is_newer(turn.session(), epoch) {
                     follow_epoch(turn, epoch)
                 } else {
                     Ok(())

@@ -11,26 +11,25 @@ use crate::effects::effect;
 use crate::epochs::note_lease;
 use st_base::Stamp;
 use st_client_association::Turn;
+use st_client_session::Session;
 use st_messages::{Body, Header};
 use std::alloc::AllocError;
 
 /// Whether a reply counts: its number is the outstanding one, and it fits the request.
-fn counts(turn: &Turn, number: u64, reply: &Body) -> bool
-    requires { has_session turn.now ≡ true }
-    ensures { result ≡ counts number reply.now (session_of turn.now).requests.asked }
+fn counts(session: &Session, number: u64, reply: &Body) -> bool
+    ensures { result ≡ counts number reply.now session.now.session.requests.asked }
 {
-    match turn.session().asked() {
+    match session.asked() {
         None => false,
         Some((asked, body)) => asked == number && fits(reply, body),
     }
 }
 
 /// Whether a reassertion is outstanding, and the reply refuses it.
-fn refuses(turn: &Turn, reply: &Body) -> bool
-    requires { has_session turn.now ≡ true }
-    ensures { result ≡ refuses reply.now (session_of turn.now).requests.asked }
+fn refuses(session: &Session, reply: &Body) -> bool
+    ensures { result ≡ refuses reply.now session.now.session.requests.asked }
 {
-    match turn.session().asked() {
+    match session.asked() {
         None => false,
         Some((_, body)) => is_refusal(reply) && reasserts(body),
     }
@@ -58,7 +57,7 @@ fn reply_to(turn: &mut Turn, now: Stamp, stamp: Stamp, reply: &Body) -> Result<(
     ensures { OnOk result (turn.new ≡ replied turn.old now stamp reply.now (session_of turn.old).requests.asked) }
 {
     let cutting = turn.session().cutting();
-    if !turn.is_waiting() {
+    if !turn.session().has_asked() {
         return Ok(());
     }
     match turn.end_request() {
@@ -79,7 +78,7 @@ fn count_reply(turn: &mut Turn, now: Stamp, stamp: Stamp, reply: &Body) -> Resul
     requires reading { now.0 ≤ 2 ^ 62 }
     ensures { OnOk result (turn.new ≡ count_reply turn.old now stamp reply.now (session_of turn.old).requests.asked) }
 {
-    if refuses(turn, reply) {
+    if refuses(turn.session(), reply) {
         turn.condemn(now);
         Ok(())
     } else {
@@ -95,7 +94,7 @@ pub fn reply_of(turn: &mut Turn, now: Stamp, h: Header, reply: &Body) -> Result<
     requires reading { now.0 ≤ 2 ^ 62 }
     ensures { OnOk result (turn.new ≡ replies.reply_of turn.old (session_of turn.old) now h reply.now) }
 {
-    if counts(turn, h.number, reply) {
+    if counts(turn.session(), h.number, reply) {
         count_reply(turn, now, Stamp(h.stamp), reply)
     } else {
         Ok(())
