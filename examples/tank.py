@@ -55,6 +55,16 @@ class Association(c.Structure):
     _fields_ = [("life", c.c_uint64), ("lease_end", c.c_uint64), ("phase", c.c_uint32), ("dirty", c.c_uint32)]
 
 
+class ClientCounted(c.Structure):
+    """How much a client has of a server."""
+    _fields_ = [(name, c.c_uint64) for name in ("locks", "waits", "dirty", "clean", "commands", "pending")]
+
+
+class ServerCounted(c.Structure):
+    """How much a server has."""
+    _fields_ = [(name, c.c_uint64) for name in ("sessions", "locks", "waits", "suspects", "names", "mapped", "free", "journal", "journal_size")]
+
+
 class Tag(c.Structure):
     _fields_ = [("birth", c.c_uint64), ("ino", c.c_uint32), ("page", c.c_uint32),
                 ("server", c.c_uint16)]
@@ -117,6 +127,8 @@ _CALLS = {
     "tank_client_step": [_P(_Handle), c.c_uint64, _bytes, _size, _P(_Step)],
     "tank_client_take": [_P(_Handle), _bytes, _size, _P(_size)],
     "tank_client_at": [_P(_Handle), c.c_uint16, c.c_uint64, _P(Association)],
+    "tank_client_counts": [_P(_Handle), c.c_uint16, _P(ClientCounted)],
+    "tank_client_owes": [_P(_Handle), c.c_uint16, c.c_uint32, _P(c.c_uint32)],
     "tank_client_close": [_P(_Handle)],
     "tank_server_open": [_P(_Handle), _P(Settings), _P(Shape), c.c_uint64, _bytes, _size, _P(c.c_uint64)],
     "tank_server_step": [_P(_Handle), c.c_uint64, _bytes, _size, _P(_Step)],
@@ -124,6 +136,7 @@ _CALLS = {
     "tank_server_kept": [_P(_Handle)],
     "tank_server_take": [_P(_Handle), _bytes, _size, _P(_size)],
     "tank_server_epoch": [_P(_Handle)],
+    "tank_server_counts": [_P(_Handle), _P(ServerCounted)],
     "tank_server_close": [_P(_Handle)],
     "tank_version": [],
     "tank_frame_at": [_bytes, _size, _P(Frame)],
@@ -294,6 +307,22 @@ class Client(_Node):
             raise Refused(result)
         return found
 
+    def counts(self, server):
+        """How much the client has of a server."""
+        found = ClientCounted()
+        result = _library.tank_client_counts(self._ref, server, c.byref(found))
+        if result:
+            raise Refused(result)
+        return found
+
+    def owes(self, server, ino):
+        """Whether an ask waits for this file of the server, so that demands for it are held back."""
+        found = c.c_uint32()
+        result = _library.tank_client_owes(self._ref, server, ino, c.byref(found))
+        if result:
+            raise Refused(result)
+        return found.value == 1
+
     def step(self, now, frame):
         """Takes a step for one frame, with its length, and returns the frames that come of it."""
         return frames_of(self.step_bytes(now, frame))
@@ -332,6 +361,14 @@ class Server(_Node):
     @property
     def epoch(self):
         return _library.tank_server_epoch(self._ref)
+
+    def counts(self):
+        """How much the server has."""
+        found = ServerCounted()
+        result = _library.tank_server_counts(self._ref, c.byref(found))
+        if result:
+            raise Refused(result)
+        return found
 
     def step(self, now, frame):
         """Takes a step for one frame, with its length, keeps its change, and returns the frames

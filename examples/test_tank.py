@@ -143,6 +143,35 @@ def test_a_lease_is_begun():
         assert client.step(10, told(2, 64)) == []  # for another node
 
 
+def counted(counts):
+    """The numbers of a structure that aren't 0."""
+    return {name: getattr(counts, name) for name, _ in counts._fields_ if getattr(counts, name)}
+
+
+def test_nodes_are_counted():
+    journal = Journal()
+    with Server(SETTINGS, SHAPE, 0, journal.bytes, journal.keep) as server, Client(SETTINGS, 1, [0]) as client:
+        assert counted(server.counts()) == {"names": 8, "free": 64, "journal": 6, "journal_size": 4096}
+        assert counted(client.counts(1)) == {} and not client.owes(1, 2)
+        (hello,) = client.step(5, told(1, 65, READ))
+        assert counted(client.counts(1)) == {"pending": 1} and counted(client.counts(2)) == {}
+        assert not client.owes(1, 2)  # it has no session
+        (welcome,) = server.step(7, hello)
+        (acquire,) = client.step(9, welcome)
+        assert acquire[5] == 3 and client.owes(1, 2)  # the ask waits for the lock
+        (granted,) = server.step(10, acquire)
+        assert counted(server.counts()) == {"sessions": 1, "locks": 1, "names": 8, "free": 64, "journal": 6, "journal_size": 4096}
+        (ask_for_map,) = client.step(11, granted)
+        assert counted(client.counts(1)) == {"locks": 1, "pending": 1}
+        assert ask_for_map[5] == 5 and client.owes(1, 2)  # the ask waits for what it needs with the lock
+        (extents,) = server.step(12, ask_for_map)
+        (answer,) = client.step(13, extents)
+        assert tank.answer(answer)[0].answer == ANSWERS["read"] and not client.owes(1, 2)
+    refused(lambda: client.counts(1), "TANK_ABSENT")
+    refused(lambda: client.owes(1, 2), "TANK_ABSENT")
+    refused(server.counts, "TANK_ABSENT")
+
+
 def test_a_server_goes_on():
     journal = Journal()
     Server(SETTINGS, SHAPE, 0, journal.bytes, journal.keep).close()

@@ -40,8 +40,8 @@
  * Demands. A server that wants a lock back sends the frame TANK_KIND_DEMAND. If it reaches a client
  * right after the grant, the client gives the lock up before it has served the ask for which it
  * wanted it, and asks for it again. Clients that take turns with one file then make slow progress,
- * though nothing is lost. So hold a demand back until the ask that waits for its grant has been
- * answered, or for longer than a round trip and a disk read.
+ * though nothing is lost. So hold a demand back while tank_client_owes returns 1 for its file, but
+ * not for much longer than a round trip and a disk read.
  *
  * Memory. Nodes use malloc, realloc and free. If memory runs out, a call returns TANK_NO_MEMORY and
  * has done nothing; no byte that must be taken out is lost. If it runs out within a step, the node
@@ -192,6 +192,27 @@ struct tank_association {
 uint32_t tank_client_at(const struct tank_client *client, uint16_t server, uint64_t now,
                         struct tank_association *association);
 
+/* Numbers for metrics. Each is the length of a list of the client's state. */
+struct tank_client_counted {
+    uint64_t locks;        /* files with a lock */
+    uint64_t waits;        /* files with a wait that the server has reported */
+    uint64_t dirty, clean; /* pages */
+    uint64_t commands;     /* disk commands that haven't ended */
+    uint64_t pending;      /* asks that haven't been answered */
+};
+
+/* How much the client has of a server; zeros if it has no such server. This isn't a step.
+ * TANK_ABSENT: *counted stays as it was. */
+uint32_t tank_client_counts(const struct tank_client *client, uint16_t server,
+                            struct tank_client_counted *counted);
+
+/* *is_owed is 1 if an ask waits for this file of the server, and otherwise 0. An ask waits if the
+ * file is neither demanded nor busy, and the ask needs a lock, or something else with the lock that
+ * is held. A demand for the file would take the lock first ("Which demands to hold back"). This
+ * isn't a step. TANK_ABSENT. */
+uint32_t tank_client_owes(const struct tank_client *client, uint16_t server, uint32_t ino,
+                          uint32_t *is_owed);
+
 /* Closes a client and frees what it holds. Its dirty pages and locks are gone, as after a crash. A
  * handle that isn't open stays as it is. */
 void tank_client_close(struct tank_client *client);
@@ -275,6 +296,20 @@ uint32_t tank_server_take(struct tank_server *server, uint8_t *out, size_t room,
 
 /* The epoch of a server; 0 if the handle isn't open. */
 uint64_t tank_server_epoch(const struct tank_server *server);
+
+/* Numbers for metrics. All but the last two are lengths of lists of the server's state. */
+struct tank_server_counted {
+    uint64_t sessions;     /* clients with a session in this epoch */
+    uint64_t locks, waits; /* of all clients */
+    uint64_t suspects;     /* clients that lose their locks when their time is over */
+    uint64_t names;        /* entries of all directories */
+    uint64_t mapped, free; /* pages with a block, and blocks without a page */
+    uint64_t journal;      /* bytes of the records that are kept in the journal */
+    uint64_t journal_size; /* bytes of the journal */
+};
+
+/* How much a server has. This isn't a step. TANK_ABSENT: *counted stays as it was. */
+uint32_t tank_server_counts(const struct tank_server *server, struct tank_server_counted *counted);
 
 /* Closes a server and frees what it holds, as a crash would. A handle that isn't open stays as it
  * is. */

@@ -36,6 +36,20 @@ static inline uint32_t tank_client_at_checked(const struct tank_client *client, 
 }
 #define tank_client_at tank_client_at_checked
 
+static inline uint32_t tank_client_counts_checked(const struct tank_client *client,
+        uint16_t server, struct tank_client_counted *counted) {
+    if (!client || !counted) return TANK_NULL;
+    return tank_client_counts(client, server, counted);
+}
+#define tank_client_counts tank_client_counts_checked
+
+static inline uint32_t tank_client_owes_checked(const struct tank_client *client, uint16_t server,
+        uint32_t ino, uint32_t *is_owed) {
+    if (!client || !is_owed) return TANK_NULL;
+    return tank_client_owes(client, server, ino, is_owed);
+}
+#define tank_client_owes tank_client_owes_checked
+
 static inline void tank_client_close_checked(struct tank_client *client) {
     if (!client) return;
     tank_client_close(client);
@@ -84,6 +98,13 @@ static inline uint64_t tank_server_epoch_checked(const struct tank_server *serve
     return tank_server_epoch(server);
 }
 #define tank_server_epoch tank_server_epoch_checked
+
+static inline uint32_t tank_server_counts_checked(const struct tank_server *server,
+        struct tank_server_counted *counted) {
+    if (!server || !counted) return TANK_NULL;
+    return tank_server_counts(server, counted);
+}
+#define tank_server_counts tank_server_counts_checked
 
 static inline void tank_server_close_checked(struct tank_server *server) {
     if (!server) return;

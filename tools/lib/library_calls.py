@@ -52,7 +52,7 @@ def main_text(named):
     """A main that makes each of these calls once, to go after the crate's sources."""
     lines, made = [], structures()
     lines += ["    let mut bytes: [u8; 1] = [0; 1];", "    let input: [u8; 1] = [0; 1];", "    let numbers: [u64; 1] = [0; 1];"]
-    lines += [f"    let mut a_{kind}: {kind} = 0;" for kind in ("u64", "usize")]
+    lines += [f"    let mut a_{kind}: {kind} = 0;" for kind in ("u32", "u64", "usize")]
     for name in made:
         if name.startswith("Tank") and name not in ("TankClient", "TankServer"):
             lines += [f"    let mut a_{name} = {made_of(name, made)};", f"    let mut some_{name} = [{made_of(name, made)}; 1];"]

@@ -2,6 +2,7 @@
 ghost use Rattle.std.specs.Prelude.{◌≡◌, ◌≤◌, ◌^◌, true, map, Ok, IsOk, IfOk, IfErr, OnOk, OnErr, length};
 ghost use Rattle.std.specs.List.{list_all, flat_map};
 ghost use Rattle.st_base.specs.Config as settings;
+ghost use Rattle.st_client.specs.Counts.{counts_with, is_awaited_with};
 ghost use Rattle.st_client.specs.Inputs.{is_sent};
 ghost use Rattle.st_client.specs.Room.{HasRoom};
 ghost use Rattle.st_client.specs.Nodes.{crashed_node};
@@ -20,7 +21,7 @@ use crate::lives::{are_kept, are_none, are_same, lives_now, lives_of};
 use crate::outbox::Sender;
 use crate::pending_frames::PendingFrames;
 use st_base::{ClientId, Config, Life, ServerId, Stamp};
-use st_client::{ClientInput, ClientNode, Outputs, Phase, StepFault};
+use st_client::{ClientCounts, ClientInput, ClientNode, Outputs, Phase, StepFault};
 use st_messages::Message;
 use st_node::client_input_of;
 use std::alloc::{AllocError, Global};
@@ -202,6 +203,21 @@ impl EmbeddedClient {
         ensures { result ≡ client.has_dirty_with self.now.node.state server }
     {
         self.node.has_dirty(server)
+    }
+
+    /// How much the client has of a server.
+    pub fn counts(&self, server: ServerId) -> ClientCounts
+        ensures { result ≡ counts_with self.now.node.state server }
+    {
+        self.node.counts(server)
+    }
+
+    /// Whether an operation waits for a grant of the file, or for what else it needs with the lock
+    /// that is held. Until then a demand for the file is held back.
+    pub fn is_awaited(&self, server: ServerId, ino: u32) -> bool
+        ensures { result ≡ is_awaited_with self.now.node.state server ino }
+    {
+        self.node.is_awaited(server, ino)
     }
 
     /// How many bytes must still be taken out. An error means that memory ran out; it changes

@@ -18,6 +18,7 @@ pub use fault::{OpenFault, ServerFault, ServerRefusal, StepRefusal};
 pub use law::{a_journal_outlives_crashes, journals_are_of_servers};
 pub use server::{EmbeddedServer, Shape};
 pub use st_base::{ClientId, Config, ConfigRefusal, Epoch, Life, ServerId, Stamp};
-pub use st_client::Phase;
+pub use st_client::{ClientCounts, Phase};
 pub use st_codec::CodecRefusal;
 pub use st_host_frames::FrameFault;
+pub use st_server::ServerCounts;

@@ -17,6 +17,7 @@ ghost use Rattle.st_messages.specs.Ranges.{fits};
 ghost use Rattle.st_node.specs.Runs.{handle, server_frame};
 ghost use Rattle.st_node.specs.declared.node.Node.TheVariants as nodes;
 ghost use Rattle.st_rules.specs.Server as server;
+ghost use Rattle.st_server.specs.Counts.{counts_of};
 ghost use Rattle.st_server.specs.Restart.{crashed_node};
 ghost use Rattle.st_server.specs.Room.{HasRoom};
 ghost use Rattle.st_server.specs.Invariants.{is_sent};
@@ -31,6 +32,7 @@ use st_durable::{Change, DurableServer, Outputs, ServerStable, StepFault};
 use st_journal::{Stable, record_of};
 use st_messages::{Body, Message, NameOp};
 use st_node::server_input_of;
+use st_server::ServerCounts;
 use std::alloc::{AllocError, Global};
 use std::marker::Model;
 
@@ -318,6 +320,20 @@ impl EmbeddedServer {
         ensures { result ≡ self.now.gate }
     {
         self.gate
+    }
+
+    /// How many bytes the journal has.
+    pub fn size(&self) -> u64
+        ensures { result ≡ self.now.size }
+    {
+        self.size
+    }
+
+    /// How much the server has.
+    pub fn counts(&self) -> ServerCounts
+        ensures { result ≡ counts_of self.now.server.node.state }
+    {
+        self.server.node().counts()
     }
 
     /// The change that must be kept before any frame is taken.

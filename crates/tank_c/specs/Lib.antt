@@ -4,3 +4,4 @@ pub mod Codes
 pub mod Calls
 pub mod ServerCalls
 pub mod FrameCalls
+pub mod Counts

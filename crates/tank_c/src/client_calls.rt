@@ -70,7 +70,7 @@ pub(crate) fn config_of(settings: &TankSettings) -> Config
 }
 
 /// 1 if it is true.
-fn flag(yes: bool) -> u32
+pub(crate) fn flag(yes: bool) -> u32
     ensures { result ≡ codes.flag yes }
 {
     if yes { 1 } else { 0 }

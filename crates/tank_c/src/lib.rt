@@ -4,6 +4,7 @@
 ghost use Rattle.std.specs.Prelude.{◌≡◌, ◌≢◌, None, Ok, is_some, length};
 ghost use Rattle.tank_c.specs.Calls.{ClientOpens, ClientSteps, ClientTakes, NoClientOpened, NoClientStep, TellsOf, client_not_taken};
 ghost use Rattle.tank_c.specs.Codes.{ABSENT, DONE, VERSION};
+ghost use Rattle.tank_c.specs.Counts.{TellsClientCounts, TellsOwed, TellsServerCounts};
 ghost use Rattle.tank_c.specs.FrameCalls.{NoFront, Unshown, Unwritten};
 ghost use Rattle.tank_c.specs.FrameCalls as shown;
 ghost use Rattle.st_host_frames.specs.Answers.{answer_in, entries_by, lost_pages_by};
@@ -21,6 +22,7 @@ mod box_pointer;
 mod client_calls;
 pub mod client_slot;
 mod codes;
+mod counts;
 mod frame_calls;
 mod server_calls;
 pub mod server_slot;
@@ -32,10 +34,12 @@ use crate::codes::{
     ABSENT, BUSY, DONE, NO_MEMORY, host_code, host_room, open_code, server_open_code,
     server_open_place,
 };
+use crate::counts::{count_client, count_server, owes};
 use crate::frame_calls::{no_answer, no_command, no_front};
 use crate::server_calls::{record_server, step_server, take_server};
 use crate::server_slot::ServerSlot;
 pub use client_calls::{TankAssociation, TankClientStepped, TankSettings};
+pub use counts::{TankClientCounted, TankServerCounted};
 pub use server_calls::{TankRecord, TankServerStepped, TankShape};
 use st_embed::{ClientId, EmbeddedClient, EmbeddedServer, ServerId, Shape, Stamp};
 use st_host_frames::{
@@ -162,6 +166,54 @@ pub extern "C" fn tank_client_at(
         .into_loose(alloc)
         .into_box();
     *association = association_at(&held, server, now);
+    client.slot = ClientSlot::of(BoxPointer::of(held));
+    DONE
+}
+
+/// Tells how much a client has of a server.
+#[unsafe(no_mangle)]
+pub extern "C" fn tank_client_counts(
+    client: &mut TankClient,
+    alloc: Global,
+    server: u16,
+    counted: &mut TankClientCounted,
+) -> u32
+    ensures told { result ≡ DONE → TellsClientCounts client.old.slot.value server counted.new }
+    ensures absent { result ≢ DONE → (result ≡ ABSENT) × (client.old.slot.value ≡ None) × (counted.new ≡ counted.old) }
+    ensures same { client.new.slot.value ≡ client.old.slot.value }
+{
+    if !client.full {
+        return ABSENT;
+    }
+    let held = mem::replace(&mut client.slot, ClientSlot::empty())
+        .into_loose(alloc)
+        .into_box();
+    *counted = count_client(&held, server);
+    client.slot = ClientSlot::of(BoxPointer::of(held));
+    DONE
+}
+
+/// Tells whether an operation of a client waits for a file of a server.
+#[unsafe(no_mangle)]
+pub extern "C" fn tank_client_owes(
+    client: &mut TankClient,
+    alloc: Global,
+    server: u16,
+    ino: u32,
+    is_owed: &mut u32,
+) -> u32
+    ensures told { result ≡ DONE → TellsOwed client.old.slot.value server ino is_owed.new }
+    ensures absent { result ≢ DONE → (result ≡ ABSENT) × (client.old.slot.value ≡ None) × (is_owed.new ≡ 0) }
+    ensures same { client.new.slot.value ≡ client.old.slot.value }
+{
+    if !client.full {
+        *is_owed = 0;
+        return ABSENT;
+    }
+    let held = mem::replace(&mut client.slot, ClientSlot::empty())
+        .into_loose(alloc)
+        .into_box();
+    *is_owed = owes(&held, server, ino);
     client.slot = ClientSlot::of(BoxPointer::of(held));
     DONE
 }
@@ -340,6 +392,28 @@ pub extern "C" fn tank_server_epoch(server: &mut TankServer, alloc: Global) -> u
     let epoch = held.epoch().0;
     server.slot = ServerSlot::of(BoxPointer::of(held));
     epoch
+}
+
+/// Tells how much a server has.
+#[unsafe(no_mangle)]
+pub extern "C" fn tank_server_counts(
+    server: &mut TankServer,
+    alloc: Global,
+    counted: &mut TankServerCounted,
+) -> u32
+    ensures told { result ≡ DONE → TellsServerCounts server.old.slot.value counted.new }
+    ensures absent { result ≢ DONE → (result ≡ ABSENT) × (server.old.slot.value ≡ None) × (counted.new ≡ counted.old) }
+    ensures same { server.new.slot.value ≡ server.old.slot.value }
+{
+    if !server.full {
+        return ABSENT;
+    }
+    let held = mem::replace(&mut server.slot, ServerSlot::empty())
+        .into_loose(alloc)
+        .into_box();
+    *counted = count_server(&held);
+    server.slot = ServerSlot::of(BoxPointer::of(held));
+    DONE
 }
 
 /// Closes a server; a handle that is not open stays so.
