@@ -165,15 +165,6 @@ void asks_answer(const uint8_t *frame, size_t size) {
     else if (it) it->answered(it, &reply);
 }
 
-bool asks_wait_for(uint16_t server, uint32_t ino) {
-    for (int i = 0; i < PENDING_MOST; i++) {
-        const struct tank_ask *it = &pending[i].ask;
-        uint32_t of = it->ask == TANK_ASK_REMOVE ? it->other : it->ino;
-        if (it->op && it->server == server && of == ino) return true;
-    }
-    return false;
-}
-
 void asks_drop(void) {
     GQueue all = stalled;
     stalled = (GQueue)G_QUEUE_INIT;

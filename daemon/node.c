@@ -17,7 +17,7 @@
  *
  * The library doesn't have groups of changes, snapshots, events, `due` and `leave` yet. When it
  * does, groups and snapshots belong in keep_record, events in give_all, and `due` in tick; `leave`
- * in node_end, and whether a demand is early in is_early. */
+ * in node_end. */
 #include "tankd.h"
 #include <endian.h>
 #include <string.h>
@@ -27,19 +27,12 @@ enum {
     BODY = 4 + 38, /* where the body of a message begins in its frame ("Wire") */
     SUSPECT = 1,   /* the first byte of a refusal's body */
     FLUSH = 4,     /* a phase of a lease */
-    GRANTS = 64,   /* the newest grants, which are remembered */
 };
 
 static struct lease { /* what the client had at a server after its last step */
     struct tank_association at;
     uint64_t flushed; /* the end of the lease that a step found in flush */
 } leases[SERVERS_MOST + 1];
-
-static struct grant { /* of a lock, by a server */
-    uint64_t moment;
-    uint32_t ino;
-    uint16_t from;
-} grants[GRANTS];
 
 struct held { /* a demand that is held back */
     uint64_t due;
@@ -269,15 +262,11 @@ static uint32_t ino_in(const uint8_t *frame) {
     return be32toh(it);
 }
 
-/* Whether a demand comes so soon after the grant of its file's lock that the ask which wanted the
- * lock still waits. */
-static bool is_early(const uint8_t *frame, uint16_t from, uint64_t now) {
-    uint32_t ino = ino_in(frame);
-    if (!asks_wait_for(from - TANK_SERVER_NODE(0), ino)) return false;
-    for (const struct grant *it = grants; it < grants + GRANTS; it++)
-        if (it->ino == ino && it->from == from && now < it->moment + config.hold * MILLISECOND)
-            return true;
-    return false;
+/* Whether a demand would take the lock before the ask that waits for it is served. */
+static bool is_early(const uint8_t *frame, uint16_t from) {
+    uint32_t is_owed;
+    must(tank_client_owes(&client, from - TANK_SERVER_NODE(0), ino_in(frame), &is_owed));
+    return is_owed;
 }
 
 static void held_is_due(UNUSED_OF_EVENT) {} /* node_between takes it */
@@ -287,7 +276,7 @@ static void take_held(void) {
     uint64_t now = clock_moment();
     for (unsigned left = held.length; left && held.head; left--) {
         struct held *it = g_queue_pop_head(&held);
-        if (now < it->due && is_early(it->frame, it->from, now)) {
+        if (now < it->due && is_early(it->frame, it->from)) {
             timer_set(held_timer, (it->due - now) / MILLISECOND + 1);
             g_queue_push_tail(&held, it);
             continue;
@@ -303,23 +292,19 @@ static bool is_input(uint16_t kind) {
 }
 
 void node_hear(const uint8_t *frame, size_t size) {
-    static unsigned granted;
     struct tank_frame front;
     must(tank_frame_at(frame, size, &front));
     if (front.to != config.node || !is_input(front.kind) || size < BODY) {
         count(COUNT_FRAMES_BAD);
         return;
     }
-    uint64_t now = clock_moment();
     bool has_ino = size >= BODY + sizeof(uint32_t);
-    if (front.kind == TANK_KIND_GRANTED && has_ino)
-        grants[granted++ % GRANTS] = (struct grant){now, ino_in(frame), front.from};
-    if (front.kind != TANK_KIND_DEMAND || !has_ino || !is_early(frame, front.from, now)) {
+    if (front.kind != TANK_KIND_DEMAND || !has_ino || !is_early(frame, front.from)) {
         node_take(frame, size);
         return;
     }
     struct held *it = g_malloc(sizeof *it + size);
-    it->due = now + config.hold * MILLISECOND;
+    it->due = clock_moment() + config.hold * MILLISECOND;
     it->from = front.from;
     it->size = size;
     memcpy(it->frame, frame, size);
@@ -360,16 +345,47 @@ void node_close(void) {
     trace_end();
 }
 
-void node_print(struct evbuffer *text) {
-    if (config.is_server) {
-        metric(text, "epoch", "gauge", "The server's epoch.", tank_server_epoch(&server));
-        metric(text, "journal_bytes", "gauge", "Bytes of the journal that are used.", gate);
-        metric(text, "journal_room_bytes", "gauge", "Bytes of the journal.", journal_room);
-        return;
-    }
-    metric_head(text, "lease_phase", "gauge",
-                "The lease: 1 valid, 2 renewal, 3 quiesce, 4 flush, 5 expired, 0 none.");
+/* A metric's value for a server. */
+static void metric_at(struct evbuffer *text, const char *name, uint16_t number, uint64_t value) {
+    evbuffer_add_printf(text, "tank_%s{node=\"%s\",server=\"s%d\"} %lu\n", name, config.name, number,
+                        value);
+}
+
+static void print_server(struct evbuffer *text) {
+    struct tank_server_counted it;
+    must(tank_server_counts(&server, &it));
+    metric(text, "epoch", "gauge", "The server's epoch.", tank_server_epoch(&server));
+    metric(text, "sessions", "gauge", "Clients with a session in this epoch.", it.sessions);
+    metric(text, "suspects", "gauge", "Clients that are suspected.", it.suspects);
+    metric(text, "locks", "gauge", "Locks of all clients.", it.locks);
+    metric(text, "waits", "gauge", "Waits for locks.", it.waits);
+    metric(text, "names", "gauge", "Entries of all directories.", it.names);
+    metric(text, "pages_mapped", "gauge", "Pages that have a block.", it.mapped);
+    metric(text, "blocks_free", "gauge", "Blocks that no page has.", it.free);
+    metric(text, "journal_bytes", "gauge", "Bytes of the journal that are used.", it.journal);
+    metric(text, "journal_room_bytes", "gauge", "Bytes of the journal.", it.journal_size);
+}
+
+static void print_client(struct evbuffer *text) {
+    struct tank_client_counted it[SERVERS_MOST + 1];
     for (uint16_t number = 1; number <= config.servers; number++)
-        evbuffer_add_printf(text, "tank_lease_phase{node=\"%s\",server=\"s%d\"} %u\n", config.name,
-                            number, leases[number].at.phase);
+        must(tank_client_counts(&client, number, &it[number]));
+#define PRINTED(name, value, what)                                                                 \
+    metric_head(text, name, "gauge", what);                                                        \
+    for (uint16_t number = 1; number <= config.servers; number++)                                  \
+        metric_at(text, name, number, value);
+    PRINTED("lease_phase", leases[number].at.phase,
+            "The lease: 1 valid, 2 renewal, 3 quiesce, 4 flush, 5 expired, 0 none.")
+    PRINTED("locks", it[number].locks, "Files with a lock.")
+    PRINTED("waits", it[number].waits, "Files with a wait that the server has reported.")
+    PRINTED("pages_dirty", it[number].dirty, "Pages that must still be written.")
+    PRINTED("pages_clean", it[number].clean, "Pages that are as on the disks.")
+    PRINTED("disk_commands", it[number].commands, "Disk commands that haven't ended.")
+    PRINTED("asks_pending", it[number].pending, "Asks that haven't been answered.")
+#undef PRINTED
+}
+
+void node_print(struct evbuffer *text) {
+    if (config.is_server) print_server(text);
+    else print_client(text);
 }

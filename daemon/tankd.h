@@ -178,7 +178,6 @@ void asks_put(struct request *);    /* it is given to the client when the client
 void asks_forget(struct request *); /* from now on, it isn't answered */
 void asks_give(void);
 void asks_answer(const uint8_t *frame, size_t size);
-bool asks_wait_for(uint16_t server, uint32_t ino); /* an ask that concerns this file waits */
 void asks_drop(void);       /* none is answered, and what wasn't synced is lost */
 void asks_end(void);        /* asks for the sync of what was written, and takes no more requests */
 bool asks_are_synced(void); /* after that */
@@ -220,7 +219,7 @@ void node_print(struct evbuffer *text); /* its metrics */
     X(SUSPECTED, "suspects_refused_total", "Requests of clients that were refused as suspects.")   \
     X(ASKS, "asks_total", "Asks of applications.")                                                 \
     X(REFUSED, "asks_unserved_total", "Asks that weren't served: quiesced, uncertain, lost ..")    \
-    X(HELD, "demands_held_total", "Demands that were held back after a grant.")                    \
+    X(HELD, "demands_held_total", "Demands that were held back for an ask.")                       \
     X(FENCED, "fenced_total", "How often this client fenced itself.")                              \
     X(DISK_READS, "disk_reads_total", "Ended disk commands that read.")                            \
     X(DISK_WRITES, "disk_writes_total", "Ended disk commands that write.")                         \
