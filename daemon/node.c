@@ -8,16 +8,16 @@
  *   One clock for each node, which never falls: keep.c.
  *   The clocks' rates: keep.c. CLOCK_BOOTTIME counts while the machine sleeps.
  *   The reading is taken when the step is taken: node_take.
- *   Ticks, and a flush that was missed: tick, is_flush_missed, fence.
+ *   Ticks, and a flush that was missed: tick, set_tick, is_flush_missed, fence.
  *   Disk commands in time, and disks of blocks: disks.c.
  *   An ask's number is used once: asks.c, new_op.
  *   Frames arrive as they were sent, and `from` is that of the peer: links.c, node_hear.
  *   Frames from and to node 0 stay here: node_hear, give_all.
  *   Demands after grants: node_hear, is_early.
  *
- * The library doesn't have groups of changes, snapshots, events, `due` and `leave` yet. When it
- * does, groups and snapshots belong in keep_record, events in give_all, and `due` in tick; `leave`
- * in node_end. */
+ * The library doesn't have groups of changes, snapshots, events, `due` of a client and `leave` yet.
+ * When it does, groups and snapshots belong in keep_record, events in give_all, `due` in tick, and
+ * `leave` in node_end. */
 #include "tankd.h"
 #include <endian.h>
 #include <string.h>
@@ -45,7 +45,7 @@ static struct tank_client client = TANK_CLIENT_CLOSED;
 static struct tank_server server = TANK_SERVER_CLOSED;
 static GByteArray *given; /* the frames of the last step */
 static GQueue held = G_QUEUE_INIT;
-static struct event *held_timer;
+static struct event *held_timer, *ticks;
 static uint64_t gate;   /* a server's, of its journal */
 static uint64_t end_by; /* the moment at which the daemon ends, at the latest; 0 before SIGTERM */
 
@@ -212,6 +212,14 @@ static void note_untaken(uint32_t result) {
     is_said = true;
 }
 
+/* A server gets its next tick when it is due. If it can't be asked, it gets one soon. */
+static void set_tick(uint64_t now) {
+    uint64_t due;
+    if (tank_server_due(&server, &due) != TANK_DONE) due = now + TICK;
+    if (due == TANK_NEVER) event_del(ticks);
+    else timer_set(ticks, due > now ? due - now : 0);
+}
+
 /* If the client fences itself, the frame is lost with what it had. */
 void node_take(const uint8_t *frame, size_t size) {
     uint64_t moment = clock_moment(), now = clock_for_step(moment), old_gate = gate;
@@ -228,6 +236,7 @@ void node_take(const uint8_t *frame, size_t size) {
     trace("\n");
     trace_flush();
     if (config.is_traced && gate != old_gate) mark_keep(gate);
+    if (config.is_server) set_tick(now);
     if (result != TANK_DONE) {
         note_untaken(result);
         return;
@@ -327,10 +336,11 @@ void node_between(void) {
 void node_begin(void) {
     given = g_byte_array_new();
     held_timer = evtimer_new(base, held_is_due, NULL);
+    ticks = event_new(base, -1, config.is_server ? 0 : EV_PERSIST, tick, NULL);
     if (!config.is_server) disks_begin();
     if (config.is_server) begin_server();
     else begin_client();
-    event_add(event_new(base, -1, EV_PERSIST, tick, NULL), &(struct timeval){0, TICK * 1000});
+    if (!config.is_server) event_add(ticks, &(struct timeval){0, TICK * 1000});
 }
 
 void node_end(void) {

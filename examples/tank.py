@@ -32,6 +32,7 @@ ANSWERS = {
 }
 ENDS = {"failed": 0, "written": 1, "read": 2}
 PAGE = 4096
+NEVER = 2**64 - 1  # no reading of a clock
 PHASES = ("none", "valid", "renewal", "quiesce", "flush", "expired")
 
 
@@ -137,6 +138,7 @@ _CALLS = {
     "tank_server_take": [_P(_Handle), _bytes, _size, _P(_size)],
     "tank_server_epoch": [_P(_Handle)],
     "tank_server_counts": [_P(_Handle), _P(ServerCounted)],
+    "tank_server_due": [_P(_Handle), _P(c.c_uint64)],
     "tank_server_close": [_P(_Handle)],
     "tank_version": [],
     "tank_frame_at": [_bytes, _size, _P(Frame)],
@@ -361,6 +363,14 @@ class Server(_Node):
     @property
     def epoch(self):
         return _library.tank_server_epoch(self._ref)
+
+    def due(self):
+        """The earliest moment at which a tick would do something; None if there is none."""
+        found = c.c_uint64()
+        result = _library.tank_server_due(self._ref, c.byref(found))
+        if result:
+            raise Refused(result)
+        return None if found.value == NEVER else found.value
 
     def counts(self):
         """How much the server has."""

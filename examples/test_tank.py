@@ -172,6 +172,27 @@ def test_nodes_are_counted():
     refused(server.counts, "TANK_ABSENT")
 
 
+def test_a_server_is_due():
+    journal = Journal()
+    with Server(SETTINGS, SHAPE, 0, journal.bytes, journal.keep) as server, Client(SETTINGS, 1, [0]) as one, Client(SETTINGS, 2, [0]) as two:
+        assert server.due() is None
+        for client, number in ((one, 1), (two, 2)):
+            (hello,) = client.step(10, told(number, 65, READ[:4] + b"\1" + READ[5:] + bytes(4096)))  # each wants to write
+            (welcome,) = server.step(10, hello)
+            (acquire,) = client.step(10, welcome)
+            frames = server.step(10, acquire)
+        assert [frame[5] for frame in frames] == [36, 37]  # the second one waits, and the first one's lock is demanded
+        assert server.due() == 10 + 500  # the demand is sent again
+        assert server.step(509, tank.tick(32769)) == [] and server.due() == 510
+        (demand,) = server.step(510, tank.tick(32769))
+        assert demand[5] == 37 and server.due() == 1010
+        server.step(1010, tank.tick(32769))  # the first one is suspected
+        assert server.counts().suspects == 1 and server.due() == 1010 + 10101
+        server.step(11111, tank.tick(32769))  # its lock is stolen, and granted to the second one
+        assert server.counts().suspects == 0 and server.due() is None
+    refused(server.due, "TANK_ABSENT")
+
+
 def test_a_server_goes_on():
     journal = Journal()
     Server(SETTINGS, SHAPE, 0, journal.bytes, journal.keep).close()

@@ -311,6 +311,16 @@ struct tank_server_counted {
 /* How much a server has. This isn't a step. TANK_ABSENT: *counted stays as it was. */
 uint32_t tank_server_counts(const struct tank_server *server, struct tank_server_counted *counted);
 
+/* No reading of a clock. */
+#define TANK_NEVER UINT64_MAX
+
+/* *due is the earliest moment at which a tick would do something, as long as the server takes no
+ * other step; TANK_NEVER if no reading of a clock is such a moment. Exactly before *due a tick
+ * leaves the server as it is, without frames; so a server needs ticks only from then on. It is 0 if
+ * a tick would do something at any moment. Ask for it again after each step. This isn't a step.
+ * TANK_ABSENT, TANK_NO_MEMORY. */
+uint32_t tank_server_due(const struct tank_server *server, uint64_t *due);
+
 /* Closes a server and frees what it holds, as a crash would. A handle that isn't open stays as it
  * is. */
 void tank_server_close(struct tank_server *server);

@@ -106,6 +106,12 @@ static inline uint32_t tank_server_counts_checked(const struct tank_server *serv
 }
 #define tank_server_counts tank_server_counts_checked
 
+static inline uint32_t tank_server_due_checked(const struct tank_server *server, uint64_t *due) {
+    if (!server || !due) return TANK_NULL;
+    return tank_server_due(server, due);
+}
+#define tank_server_due tank_server_due_checked
+
 static inline void tank_server_close_checked(struct tank_server *server) {
     if (!server) return;
     tank_server_close(server);

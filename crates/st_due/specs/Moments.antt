@@ -1,5 +1,5 @@
 -- Moments of timers: the earliest of several, and whether it has come.
-use Rattle.std.specs.Prelude.{ℕ, Bool, false, min, nat_le, List, [], ◌∷◌, Option, Some, None}
+use Rattle.std.specs.Prelude.{ℕ, ◌^◌, Bool, false, if◌then◌else◌, min, nat_le, List, [], ◌∷◌, Option, Some, None}
 use Rattle.st_base.specs.declared.ids.Stamp.{Stamp}
 
 -- this moment, or an earlier one
@@ -20,3 +20,17 @@ has_come now m = nat_le m now.0
 abbrev pub is_due : Option ℕ → Stamp → Bool
 is_due None now = false
 is_due (Some m) now = has_come now m
+
+-- the earlier of two moments, of which either may be missing
+abbrev pub sooner : Option ℕ → Option ℕ → Option ℕ
+sooner None n = n
+sooner (Some m) n = Some (earlier m n)
+
+-- Readings of clocks are at most 2^62: this moment, if a clock may read it.
+abbrev pub readable : ℕ → Option ℕ
+readable m = if nat_le m (2 ^ 62) then Some m else None
+
+-- a moment, if there is one that a clock may read
+abbrev pub readable_by : Option ℕ → Option ℕ
+readable_by None = None
+readable_by (Some m) = readable m

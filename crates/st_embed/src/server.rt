@@ -5,6 +5,8 @@ ghost use Rattle.std.specs.Option.{option_copied};
 ghost use Rattle.st_base.specs.Config as settings;
 ghost use Rattle.st_durable.specs.Durable as durable;
 ghost use Rattle.st_durable.specs.Durable.{Tells};
+ghost use Rattle.st_due.specs.Moments.{readable_by};
+ghost use Rattle.st_due.specs.ServerDue.{server_due};
 ghost use Rattle.st_extents.specs.Layout.{IsWithinLimits};
 ghost use Rattle.st_embed.specs.Servers.{IsAskedBy, IsStarved, MayOpen, MayStart, MayStep, NotOpened, NotTaken, IsOfServer, NotStarted, NotStartedAfter, Opens, Refuses, RefusesStep, Steps, begun, kept, len_by, record_by, start_of, to_keep};
 ghost use Rattle.st_embed.specs.FramePieces.{Takes};
@@ -334,6 +336,14 @@ impl EmbeddedServer {
         ensures { result ≡ counts_of self.now.server.node.state }
     {
         self.server.node().counts()
+    }
+
+    /// From which moment on a tick does something, as long as there is no other step; none if no
+    /// clock may read it. An error means that memory ran out.
+    pub fn due(&self) -> Result<Option<u64>, AllocError>
+        ensures { IfOk result (λ o. o ≡ readable_by (server_due self.now.server.node.state)) }
+    {
+        self.server.node().due()
     }
 
     /// The change that must be kept before any frame is taken.

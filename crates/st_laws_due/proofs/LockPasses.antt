@@ -6,7 +6,8 @@ use Words.Locks.{Demanding, Granting, Locks, demand_again, demand_clients, deman
 use Words.Locks.{grant_file, grant_files, grant_waiter, grantable, is_below, is_wait_on, next_grants, next_waiter, nothing_demanded, nothing_granted, row_of, sent_again, to_demand, waited_files, wish}
 use Rattle.st_due.specs.Moments.{has_come, is_due}
 use Rattle.st_due.specs.ServerDue.{demand_at, demand_of_client, demand_of_row, demands_at, demands_for, demands_on, may_grant_on}
-use Rattle.st_laws_due.proofs.Moments.{any_filtered, any_flat, comes}
+use Rattle.st_due.proofs.EarliestFound.{any_filtered, comes}
+use Rattle.st_laws_due.proofs.Moments.{any_flat}
 use Rattle.st_laws_due.proofs.Passes.{IsBy, fold_steps, one_longer, steps_by}
 
 -- Grants.

@@ -17,7 +17,8 @@ use Rattle.std.proofs.lemmas.List.Folds.{list_any-append}
 use Rattle.st_lemmas.proofs.Tests.{any_same}
 use Rattle.st_due.specs.Moments.{has_come, is_due}
 use Rattle.st_due.specs.ServerDue.{TicksAreDue, demands_at, grace_end, grants_at, may_grant_on, moments, overdue_demand, overdue_since, server_due, suspicion_at, suspicions_at, theft_of, thefts_at}
-use Rattle.st_laws_due.proofs.Moments.{any_filtered, any_mapped, any_over, any_picked, any_rising, comes, earliest_due}
+use Rattle.st_due.proofs.EarliestFound.{any_filtered, comes, earliest_due}
+use Rattle.st_laws_due.proofs.Moments.{any_mapped, any_over, any_picked, any_rising}
 use Rattle.st_laws_due.proofs.LockPasses.{demands_by, grants_by}
 use Rattle.st_laws_due.proofs.Passes.{IsBy, and_then, fold_steps, never_less, one_longer, steps_by}
 

@@ -2,6 +2,8 @@ ghost use Rattle.std.specs.Prelude.{◌≡◌, true, false, IfOk, IsOk, OnOk, On
 ghost use Rattle.std.specs.Bool.{OnTrue};
 ghost use Rattle.std.specs.List.{list_any};
 ghost use Rattle.st_base.specs.Config as settings;
+ghost use Rattle.st_due.specs.Moments.{earliest, readable_by};
+ghost use Rattle.st_due.specs.ServerDue.{thefts_at};
 ghost use Rattle.st_rules.specs.Authority as authority;
 ghost use Rattle.st_rules.specs.ServerInvariants.{are_rising};
 
@@ -9,6 +11,7 @@ use crate::timer_starts::{Start, drop_past, is_past};
 use crate::timers::{clients_over, drop_over, place_timer, tell_clients, timer_of};
 use st_base::{ClientId, Config, Stamp};
 use st_clock::steal_wait;
+use st_due::{after, sooner};
 use st_rules::Suspect;
 use std::alloc::{AllocError, Global};
 use std::collections::BTreeSet;
@@ -128,6 +131,18 @@ impl Authority {
         drop_past(&mut self.starts, self.wait, now);
         tell_clients(&mut self.clients, &self.timers);
         Ok(over)
+    }
+
+    /// The moment at which the first timer is over; none if no clock may read it. It does not
+    /// allocate.
+    pub fn first_theft(&self) -> Option<u64>
+        ensures { result ≡ readable_by (earliest (thefts_at self.now)) }
+    {
+        let mut first = None;
+        for timer in self.timers.as_slice() {
+            first = sooner(first, after(timer.start, self.wait));
+        }
+        first
     }
 
     /// How many clients are suspect.

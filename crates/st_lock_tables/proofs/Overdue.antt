@@ -1,6 +1,6 @@
 -- The demands that wait too long, by the set of those that wait and by the rows.
 use Rattle.std.proofs.Common.{◌≡◌, ℕ, ◌+◌, ◌<◌, ◌≤◌, Bool, true, false, cond, List, [], ◌∷◌, map, refl, sym, ap, ◌∙◌, true≢false, arith}
-use Rattle.std.specs.Prelude.{find, nat_le, nat_lt, Option, Some, None, ◌==◌, ◌&&◌, ◌||◌}
+use Rattle.std.specs.Prelude.{filter_map, find, nat_le, nat_lt, Option, Some, None, ◌==◌, ◌&&◌, ◌||◌}
 use Rattle.std.specs.BTreeSet.{BTreeSet, contains}
 use Rattle.std.specs.List.{IsDistinct, AllByRecursion, list_any}
 use Rattle.std.specs.List.Sorted.{IsStrictlySortedBy}
@@ -11,12 +11,16 @@ use Rattle.st_base.specs.declared.config.Config.{Config}
 use Rattle.st_base.specs.declared.ids.ClientId.{ClientId}
 use Rattle.st_base.specs.declared.ids.Stamp.{Stamp}
 use Rattle.st_rules.specs.Keys.{same_client}
-use Rattle.st_rules.specs.Locks.{is_row_of, is_overdue, is_overdue_demand, is_overdue_since}
+use Rattle.st_due.proofs.EarliestFound.{any_filtered, comes, same_earliest}
+use Rattle.st_due.specs.Moments.{earliest, has_come, is_due}
+use Rattle.st_due.specs.ServerDue.{overdue_demand, overdue_since}
+use Rattle.st_rules.specs.Locks.{is_among, is_row_of, is_overdue, is_overdue_demand, is_overdue_since}
 use Rattle.st_rules.specs.declared.locks.LockRow.{LockRow}
 use Rattle.st_rules.specs.declared.locks.RowDemand.{RowDemand}
 use Rattle.st_tables.specs.Tables.{lock_key, same_key}
 use Rattle.st_tables.proofs.Places.{at_found, any_at_key}
 use Rattle.st_lock_tables.specs.DemandStarts.{AreListed, is_late, is_late_of, is_since, since_of, since_of_demand, wait_order}
+use Rattle.st_lock_tables.specs.Overdue.{overdue_row, overdue_wait}
 use Rattle.st_lock_tables.proofs.SinceKeys.{same_key as one_wait}
 
 both : (a b : Bool) → (a ≡ true → b ≡ true) → (b ≡ true → a ≡ true) → a ≡ b
@@ -92,6 +96,59 @@ module _ (rows : List LockRow) (set : BTreeSet (Stamp × ℕ × ClientId)) (list
   -- a client's late demands are in the set
   pub late_rows : list_any (is_late_of k.demand now c) set.keys ≡ list_any (λ r. is_overdue k now r && (r.client.0 == c)) rows
   late_rows = both (list_any (is_late_of k.demand now c) set.keys) (list_any (λ r. is_overdue k now r && (r.client.0 == c)) rows) to_row to_wait
+
+-- The first demand that is overdue, by the set and by the rows.
+
+by_demand : (k : Config) (now : Stamp) (o : Option RowDemand) → is_due (overdue_demand k o) now ≡ is_overdue_demand k now o
+by_demand k now None = refl
+by_demand k now (Some d) = by_since d.since
+  where
+    by_since : (o : Option Stamp) → is_due (overdue_since k o) now ≡ is_overdue_since k now o
+    by_since None = refl
+    by_since (Some s) = refl
+
+unless_among : (b : Bool) (o : Option ℕ) (now : Stamp) → is_due (cond b None o) now ≡ true → (b ≡ false) × (is_due o now ≡ true)
+unless_among true o now e = absurd (true≢false (sym e))
+unless_among false o now e = (refl, e)
+
+module _ (rows : List LockRow) (set : BTreeSet (Stamp × ℕ × ClientId)) (listed : AreListed rows set) (distinct : IsDistinct same_key (map lock_key rows)) (k : Config) (besides : List ClientId) where
+  module _ (now : Stamp) where
+    wait_to_row : list_any (comes now (overdue_wait k besides)) set.keys ≡ true → list_any (comes now (overdue_row k besides)) rows ≡ true
+    wait_to_row e =
+        let x = some_one (comes now (overdue_wait k besides)) set.keys e in
+        let a = unless_among (is_among besides x.0.2) (Some (x.0.0.0 + k.demand)) now x.1 in
+        let there : contains wait_order set (x.0.0, x.0.1, x.0.2) ≡ true = x.2 (λ q. is_eq (wait_order (x.0.0, x.0.1, x.0.2) q)) (itself x.0) in
+        let y = some_one (λ r. is_row_of x.0.2 x.0.1 r && is_since x.0.0 (since_of_demand r.demand)) rows (sym (by_key rows set listed distinct k now 0 x.0.0 x.0.1 x.0.2) ∙ there) in
+        let b = and_parts (is_row_of x.0.2 x.0.1 y.0) (is_since x.0.0 (since_of_demand y.0.demand)) y.1 in
+        let d = and_parts (same_client y.0.client x.0.2) (y.0.ino == x.0.1) b.0 in
+        let among : is_among besides y.0.client ≡ false = ap (λ n. list_any (λ c. n == c.0) besides) (eqb-true y.0.client.0 x.0.2.0 d.0) ∙ a.0 in
+        y.2 (comes now (overdue_row k besides))
+        (ap (λ t. is_due (cond t None (overdue_demand k y.0.demand)) now) among ∙ by_demand k now y.0.demand ∙ late_demand k now x.0.0 y.0.demand b.1 a.1)
+
+    row_to_wait : list_any (comes now (overdue_row k besides)) rows ≡ true → list_any (comes now (overdue_wait k besides)) set.keys ≡ true
+    row_to_wait e =
+        let y = some_one (comes now (overdue_row k besides)) rows e in
+        let b = unless_among (is_among besides y.0.client) (overdue_demand k y.0.demand) now y.1 in
+        let s = demand_late k now y.0.demand (sym (by_demand k now y.0.demand) ∙ b.1) in
+        let own : is_row_of y.0.client y.0.ino y.0 ≡ true = λ i. eq-eqb y.0.client.0 y.0.client.0 refl i && eq-eqb y.0.ino y.0.ino refl i in
+        let there : contains wait_order set (s.0, y.0.ino, y.0.client) ≡ true =
+        by_key rows set listed distinct k now 0 s.0 y.0.ino y.0.client ∙ y.2 (λ r. is_row_of y.0.client y.0.ino r && is_since s.0 (since_of_demand r.demand)) (λ i. own i && s.1 i) in
+        let x = some_one (λ q. is_eq (wait_order (s.0, y.0.ino, y.0.client) q)) set.keys there in
+        let a = and_parts (x.0.0.0 == s.0.0) (same_client x.0.2 y.0.client && (x.0.1 == y.0.ino)) (sym (one_wait (s.0, y.0.ino, y.0.client) x.0) ∙ x.1) in
+        let d = and_parts (same_client x.0.2 y.0.client) (x.0.1 == y.0.ino) a.1 in
+        let among : is_among besides x.0.2 ≡ false = ap (λ n. list_any (λ c. n == c.0) besides) (eqb-true x.0.2.0 y.0.client.0 d.0) ∙ b.0 in
+        x.2 (comes now (overdue_wait k besides))
+        (ap (λ t. is_due (cond t None (Some (x.0.0.0 + k.demand))) now) among ∙ ap (λ n. nat_le (n + k.demand) now.0) (eqb-true x.0.0.0 s.0.0 a.0) ∙ s.2)
+
+    overdue_waits : list_any (has_come now) (filter_map (overdue_wait k besides) set.keys) ≡ list_any (has_come now) (filter_map (overdue_row k besides) rows)
+    overdue_waits =
+        any_filtered (overdue_wait k besides) now set.keys
+        ∙ both (list_any (comes now (overdue_wait k besides)) set.keys) (list_any (comes now (overdue_row k besides)) rows) wait_to_row row_to_wait
+        ∙ sym (any_filtered (overdue_row k besides) now rows)
+
+  -- the first of those that wait is the first of the rows'
+  pub first_overdue : earliest (filter_map (overdue_wait k besides) set.keys) ≡ earliest (filter_map (overdue_row k besides) rows)
+  first_overdue = same_earliest (filter_map (overdue_wait k besides) set.keys) (filter_map (overdue_row k besides) rows) overdue_waits
 
 -- After a demand that isn't late, none is.
 

@@ -1,3 +1,4 @@
 pub mod Calls
 pub mod DemandStarts
 pub mod WaitedFiles
+pub mod Overdue

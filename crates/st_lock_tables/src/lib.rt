@@ -3,6 +3,7 @@
 //! definition of its rule gives.
 #![tactic(auto)]
 
+mod due;
 mod installation;
 mod passes;
 mod refusal;

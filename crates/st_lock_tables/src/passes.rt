@@ -103,7 +103,7 @@ fn demand_now(pass: Pass, to: Mode, demand: Option<RowDemand>) -> Option<RowDema
     }
 }
 
-fn wish(mode: Mode) -> Mode
+pub(crate) fn wish(mode: Mode) -> Mode
     ensures { result ≡ locks.wish mode }
 {
     match mode {
@@ -112,7 +112,7 @@ fn wish(mode: Mode) -> Mode
     }
 }
 
-fn is_among(clients: &[ClientId], client: ClientId) -> bool
+pub(crate) fn is_among(clients: &[ClientId], client: ClientId) -> bool
     ensures { result ≡ locks.is_among clients.now client }
 {
     clients.iter().any(|c| c.0 == client.0)
@@ -126,7 +126,7 @@ fn drop_among(clients: &mut Vec<ClientId>, suspects: &[ClientId])
 
 impl PlainTable {
     /// The first waiter of the file, if no other client's row conflicts.
-    fn next_waiter(&self, ino: u32) -> Option<Waiter>
+    pub(crate) fn next_waiter(&self, ino: u32) -> Option<Waiter>
         ensures next { result ≡ locks.next_waiter self.now ino }
         ensures client { IfSome result (λ w. IsClient w.client) }
         ensures lock { IfSome result (λ w. is_lock w.mode ≡ true) }
@@ -231,7 +231,11 @@ impl PlainTable {
         Ok(())
     }
 
-    fn to_demand(&self, suspects: &[ClientId], w: Waiter) -> Result<Vec<ClientId>, AllocError>
+    pub(crate) fn to_demand(
+        &self,
+        suspects: &[ClientId],
+        w: Waiter,
+    ) -> Result<Vec<ClientId>, AllocError>
         ensures { IfOk result (λ v. v.items ≡ locks.to_demand self.now suspects.now w) }
     {
         let alloc = self.alloc;

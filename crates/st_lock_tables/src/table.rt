@@ -126,7 +126,7 @@ pub(crate) fn push_if(
 }
 
 /// Either.
-fn either(a: bool, b: bool) -> bool
+pub(crate) fn either(a: bool, b: bool) -> bool
     ensures { result ≡ a || b }
 {
     a || b

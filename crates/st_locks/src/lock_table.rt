@@ -1,13 +1,16 @@
 // The lock table with the files that calls touched since the passes last walked them.
-ghost use Rattle.std.specs.Prelude.{◌≡◌, ◌≤◌, ◌<◌, ◌+◌, ◌-◌, ◌^◌, ◌++◌, ◌∷◌, ◌&&◌, [], ℕ, IfOk, IfSome, OnOk, OnErr, Some, None, find, length, false, true, nat_lt};
+ghost use Rattle.std.specs.Prelude.{◌≡◌, ◌≤◌, ◌<◌, ◌+◌, ◌-◌, ◌^◌, ◌++◌, ◌∷◌, ◌&&◌, [], ℕ, IfOk, IfSome, OnOk, OnErr, Some, None, filter_map, find, length, false, true, nat_lt};
 ghost use Rattle.std.specs.List.{IsDistinct, list_all, list_any};
 ghost use Rattle.std.specs.BTreeSet.{contains};
 ghost use Rattle.st_base.specs.declared.ids.ClientId.{ClientId};
 ghost use Rattle.st_base.specs.declared.ids.Stamp.{Stamp};
+ghost use Rattle.st_due.specs.Moments.{earliest, readable_by};
+ghost use Rattle.st_due.specs.ServerDue.{demands_at, may_grant_on};
 ghost use Rattle.st_rules.specs.Locks as locks;
 ghost use Rattle.st_rules.specs.ServerInvariants.{IsLockTable};
 ghost use Rattle.st_locks.specs.DemandStarts.{IsClient, is_since, since_of, wait_order};
 ghost use Rattle.st_lock_tables.specs.Calls.{file_granted};
+ghost use Rattle.st_lock_tables.specs.Overdue.{overdue_row};
 ghost use Rattle.st_locks.specs.Calls.{Answers, Installs, demanding, granting, is_lock, is_lock_row, is_old_row, is_row_from, same_file, told};
 
 use crate::parts::{LockTableParts, touch_locks, touch_rows, touch_waited, touch_waits, walked};
@@ -109,6 +112,37 @@ impl LockTable {
         ensures { (s : Stamp) (i : ℕ) (c : ClientId) → contains wait_order result.now (s, i, c) ≡ is_since s (since_of (locks.row_of self.now c i)) }
     {
         self.parts.table.by_since()
+    }
+
+    /// From which moment on a demand waits too long for its answer, except for those on rows of
+    /// the suspects; none if no clock may read it. It does not allocate.
+    pub fn first_overdue(&self, config: &Config, suspects: &[ClientId]) -> Option<u64>
+        ensures { result ≡ readable_by (earliest (filter_map (overdue_row config.now suspects.now) self.now.rows)) }
+    {
+        self.parts.table.first_overdue(config, suspects)
+    }
+
+    /// Whether the first waiter of a file may be granted.
+    pub fn may_grant_one(&self) -> Result<bool, AllocError>
+        ensures { IfOk result (λ may. may ≡ list_any (may_grant_on self.now) (locks.waited_files self.now)) }
+    {
+        let files = self.parts.table.waited_files()?;
+        Ok(self.parts.table.may_grant_one(files.as_slice()))
+    }
+
+    /// From which moment on a tick demands a row in the way of a first waiter, except for the rows
+    /// of the suspects; none if no clock may read it.
+    pub fn first_demand(
+        &self,
+        config: &Config,
+        suspects: &[ClientId],
+    ) -> Result<Option<u64>, AllocError>
+        ensures { IfOk result (λ o. o ≡ readable_by (earliest (demands_at config.now self.now suspects.now))) }
+    {
+        let files = self.parts.table.waited_files()?;
+        self.parts
+            .table
+            .first_demand(config, suspects, files.as_slice())
     }
 
     /// Room to keep which files are touched.

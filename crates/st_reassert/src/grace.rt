@@ -1,6 +1,8 @@
 ghost use Rattle.std.specs.Prelude.{◌≡◌, IsOk, true};
 ghost use Rattle.std.specs.List.{IsDistinct, list_all};
 ghost use Rattle.st_base.specs.Config as settings;
+ghost use Rattle.st_due.specs.Moments.{readable};
+ghost use Rattle.st_due.specs.ServerDue.{grace_end};
 ghost use Rattle.st_locks.specs.Calls.{is_lock_row, same_file};
 ghost use Rattle.st_locks.specs.DemandStarts.{IsClient};
 ghost use Rattle.st_rules.specs.Grace as grace;
@@ -10,6 +12,7 @@ use crate::acceptance::accept_rows;
 use crate::refusal::ReassertRefusal;
 use st_base::{ClientId, Config, GrantNo, Life, Mode, Stamp};
 use st_clock::steal_wait;
+use st_due::after;
 use st_locks::LockTable;
 use st_sessions::Sessions;
 use std::marker::Model;
@@ -66,6 +69,17 @@ impl Grace {
         match self.period {
             None => false,
             Some(period) => is_within(period, now),
+        }
+    }
+
+    /// The moment from which on grace is over, which is 0 if there is none; none if no clock may
+    /// read it. It does not allocate.
+    pub fn end(&self) -> Option<u64>
+        ensures { result ≡ readable (grace_end self.now) }
+    {
+        match self.period {
+            None => Some(0),
+            Some(period) => after(period.start, period.wait),
         }
     }
 

@@ -18,3 +18,4 @@ pub mod Begins
 pub mod SoundSteps
 pub mod OneAnswer
 pub mod Counters
+pub mod TimerEnds

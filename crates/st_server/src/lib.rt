@@ -3,6 +3,7 @@
 #![tactic(auto)]
 
 mod counts;
+mod due;
 mod greetings;
 mod lock_requests;
 mod name_requests;

@@ -1,6 +1,8 @@
 ghost use Rattle.std.specs.Prelude.{◌≡◌, ◌≤◌, ◌<◌, ◌+◌, ◌-◌, ◌^◌, true, false, IsOk, IfOk, IfErr, OnOk, OnErr, IsTrue, ◌↔◌};
 ghost use Rattle.std.specs.List.{list_all};
 ghost use Rattle.st_base.specs.Config as settings;
+ghost use Rattle.st_due.specs.Moments.{readable_by};
+ghost use Rattle.st_due.specs.ServerDue.{server_due};
 ghost use Rattle.st_extents.specs.Layout.{IsWithinLimits};
 ghost use Rattle.st_rules.specs.Server as server;
 ghost use Rattle.st_messages.specs.Ranges.{fits};
@@ -112,6 +114,14 @@ impl ServerNode {
         ensures { result ≡ counts_of self.now.state }
     {
         self.machine.counts()
+    }
+
+    /// From which moment on a tick does something, as long as there is no other step; none if no
+    /// clock may read it.
+    pub fn due(&self) -> Result<Option<u64>, AllocError>
+        ensures { IfOk result (λ o. o ≡ readable_by (server_due self.now.state)) }
+    {
+        self.machine.due()
     }
 
     /// Whether a step may be taken, as far as the counters go.

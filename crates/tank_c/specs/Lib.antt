@@ -5,3 +5,4 @@ pub mod Calls
 pub mod ServerCalls
 pub mod FrameCalls
 pub mod Counts
+pub mod Due

@@ -5,6 +5,7 @@ ghost use Rattle.std.specs.Prelude.{◌≡◌, ◌≢◌, None, Ok, is_some, len
 ghost use Rattle.tank_c.specs.Calls.{ClientOpens, ClientSteps, ClientTakes, NoClientOpened, NoClientStep, TellsOf, client_not_taken};
 ghost use Rattle.tank_c.specs.Codes.{ABSENT, DONE, VERSION};
 ghost use Rattle.tank_c.specs.Counts.{TellsClientCounts, TellsOwed, TellsServerCounts};
+ghost use Rattle.tank_c.specs.Due.{TellsServerDue, not_told};
 ghost use Rattle.tank_c.specs.FrameCalls.{NoFront, Unshown, Unwritten};
 ghost use Rattle.tank_c.specs.FrameCalls as shown;
 ghost use Rattle.st_host_frames.specs.Answers.{answer_in, entries_by, lost_pages_by};
@@ -23,6 +24,7 @@ mod client_calls;
 pub mod client_slot;
 mod codes;
 mod counts;
+mod due;
 mod frame_calls;
 mod server_calls;
 pub mod server_slot;
@@ -35,6 +37,7 @@ use crate::codes::{
     server_open_place,
 };
 use crate::counts::{count_client, count_server, owes};
+use crate::due::due_server;
 use crate::frame_calls::{no_answer, no_command, no_front};
 use crate::server_calls::{record_server, step_server, take_server};
 use crate::server_slot::ServerSlot;
@@ -414,6 +417,25 @@ pub extern "C" fn tank_server_counts(
     *counted = count_server(&held);
     server.slot = ServerSlot::of(BoxPointer::of(held));
     DONE
+}
+
+/// Tells from which moment on a tick at a server does something.
+#[unsafe(no_mangle)]
+pub extern "C" fn tank_server_due(server: &mut TankServer, alloc: Global, due: &mut u64) -> u32
+    ensures told { result ≡ DONE → TellsServerDue server.old.slot.value due.new }
+    ensures refused { result ≢ DONE → (result ≡ not_told server.old.slot.value) × (due.new ≡ 0) }
+    ensures same { server.new.slot.value ≡ server.old.slot.value }
+{
+    if !server.full {
+        *due = 0;
+        return ABSENT;
+    }
+    let held = mem::replace(&mut server.slot, ServerSlot::empty())
+        .into_loose(alloc)
+        .into_box();
+    let code = due_server(&held, due);
+    server.slot = ServerSlot::of(BoxPointer::of(held));
+    code
 }
 
 /// Closes a server; a handle that is not open stays so.

@@ -1,0 +1,9 @@
+use Rattle.st_lemmas.proofs.Words
+use Words.{◌≡◌, subst, IfOk}
+use Words.Server.{ServerNode}
+use Rattle.st_due.specs.Moments.{readable_by}
+use Rattle.st_due.specs.ServerDue.{server_due}
+use Rattle.st_server.proofs.node.ServerNode.due.Goals as goal
+
+pub returns : goal.returns
+returns c = subst (λ (n : ServerNode). IfOk c.due.result (λ o. o ≡ readable_by (server_due n.state))) c.self.view_is c.due.ensures
