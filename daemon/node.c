@@ -15,9 +15,8 @@
  *   Frames from and to node 0 stay here: node_hear, give_all.
  *   Demands after grants: node_hear, is_early.
  *
- * The library doesn't have groups of changes, snapshots, events, `due` of a client and `leave` yet.
- * When it does, groups and snapshots belong in keep_record, events in give_all, `due` in tick, and
- * `leave` in node_end. */
+ * The library doesn't have groups of changes, snapshots, `due` of a client and `leave` yet. When it
+ * does, groups and snapshots belong in keep_record, `due` in tick, and `leave` in node_end. */
 #include "tankd.h"
 #include <endian.h>
 #include <string.h>
@@ -25,7 +24,6 @@
 enum {
     TICK = 100,    /* milliseconds */
     BODY = 4 + 38, /* where the body of a message begins in its frame ("Wire") */
-    SUSPECT = 1,   /* the first byte of a refusal's body */
     FLUSH = 4,     /* a phase of a lease */
 };
 
@@ -150,17 +148,30 @@ static void fence(void) {
 
 /* What a step gave */
 
-/* What is known of a suspicion without the library's events: the first request that the server
- * refuses since its client is suspected. */
-static void note_refusal(uint16_t peer, uint16_t kind, uint8_t cause) {
-    static bool is_suspect[CLIENTS_MOST + 1];
-    if (kind == TANK_KIND_WELCOME) is_suspect[peer] = false;
-    if (kind != TANK_KIND_NACK || cause != SUSPECT) return;
-    count(COUNT_SUSPECTED);
-    if (is_suspect[peer]) return;
-    is_suspect[peer] = true;
-    say(LEVEL_WARNING, "client %d is suspected", peer);
-    hook_run("suspected", peer);
+static void note_event(const struct tank_event *it) {
+    bool is_suspected = it->event == TANK_EVENT_SUSPECTED;
+    if (it->event == TANK_EVENT_LOST)
+        say(LEVEL_WARNING, "the lease at server %d was lost in life %lu", it->server, it->life);
+    if (!is_suspected && it->event != TANK_EVENT_STOLEN) return;
+    count(is_suspected ? COUNT_SUSPECTED : COUNT_STOLEN);
+    say(LEVEL_WARNING, "client %d is %s", it->client,
+        is_suspected ? "suspected" : "robbed of its locks");
+    hook_run(is_suspected ? "suspected" : "stolen", it->client);
+}
+
+/* Notes what the last step told beside its frames. */
+static void note_events(void) {
+    static struct tank_event *events;
+    static size_t room;
+    uint32_t result = TANK_SHORT_ROOM;
+    size_t count = 0;
+    while (result == TANK_SHORT_ROOM) {
+        events = g_renew(struct tank_event, events, room = room + count);
+        result = config.is_server ? tank_server_events(&server, events, room, &count)
+                                  : tank_client_events(&client, events, room, &count);
+    }
+    must(result);
+    for (size_t i = 0; i < count; i++) note_event(&events[i]);
 }
 
 static void give_all(void) {
@@ -171,8 +182,6 @@ static void give_all(void) {
         if (frame.kind == TANK_KIND_APPDONE) asks_answer(bytes, frame.size);
         else if (frame.kind == TANK_KIND_SUBMIT) disks_submit(bytes, frame.size);
         else link_send(frame.to, bytes, frame.size);
-        if (config.is_server && frame.to <= CLIENTS_MOST)
-            note_refusal(frame.to, frame.kind, bytes[BODY]);
     }
     g_byte_array_set_size(given, 0);
 }
@@ -242,6 +251,7 @@ void node_take(const uint8_t *frame, size_t size) {
         return;
     }
     count(COUNT_STEPS);
+    note_events();
     give_all();
 }
 
@@ -357,8 +367,8 @@ void node_close(void) {
 
 /* A metric's value for a server. */
 static void metric_at(struct evbuffer *text, const char *name, uint16_t number, uint64_t value) {
-    evbuffer_add_printf(text, "tank_%s{node=\"%s\",server=\"s%d\"} %lu\n", name, config.name, number,
-                        value);
+    evbuffer_add_printf(text, "tank_%s{node=\"%s\",server=\"s%d\"} %lu\n", name, config.name,
+                        number, value);
 }
 
 static void print_server(struct evbuffer *text) {

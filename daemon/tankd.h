@@ -216,7 +216,8 @@ void node_print(struct evbuffer *text); /* its metrics */
     X(PEERS_REFUSED, "peers_refused_total", "Connections whose peer didn't prove to be a node.")   \
     X(CHANGES, "changes_total", "Changes that were kept in the journal.")                          \
     X(JOURNAL_FULL, "journal_full_total", "Requests that were dropped, as the journal is full.")   \
-    X(SUSPECTED, "suspects_refused_total", "Requests of clients that were refused as suspects.")   \
+    X(SUSPECTED, "suspected_total", "How often a client was suspected.")                           \
+    X(STOLEN, "stolen_total", "How often the locks of a client were stolen.")                      \
     X(ASKS, "asks_total", "Asks of applications.")                                                 \
     X(REFUSED, "asks_unserved_total", "Asks that weren't served: quiesced, uncertain, lost ..")    \
     X(HELD, "demands_held_total", "Demands that were held back for an ask.")                       \

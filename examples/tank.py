@@ -30,6 +30,10 @@ ANSWERS = {
     "quiesced": 17, "no_file": 18, "no_space": 19, "disk_fault": 20, "ops_full": 21,
     "uncertain": 22, "lost": 23, "dirty_full": 24, "not_holder": 25, "too_many_locks": 26,
 }
+EVENTS = {
+    "suspected": 1, "stolen": 2, "cut": 3, "granted": 4, "welcomed": 5, "leased": 6, "lost": 7,
+    "written": 8,
+}
 ENDS = {"failed": 0, "written": 1, "read": 2}
 PAGE = 4096
 NEVER = 2**64 - 1  # no reading of a clock
@@ -64,6 +68,12 @@ class ClientCounted(c.Structure):
 class ServerCounted(c.Structure):
     """How much a server has."""
     _fields_ = [(name, c.c_uint64) for name in ("sessions", "locks", "waits", "suspects", "names", "mapped", "free", "journal", "journal_size")]
+
+
+class Event(c.Structure):
+    """What a step tells beside its frames. Its kind is a number of EVENTS."""
+    _fields_ = [("life", c.c_uint64), ("moment", c.c_uint64), ("grant", c.c_uint64), ("event", c.c_uint32), ("ino", c.c_uint32),
+                ("page", c.c_uint32), ("mode", c.c_uint32), ("client", c.c_uint16), ("server", c.c_uint16)]
 
 
 class Tag(c.Structure):
@@ -130,6 +140,7 @@ _CALLS = {
     "tank_client_at": [_P(_Handle), c.c_uint16, c.c_uint64, _P(Association)],
     "tank_client_counts": [_P(_Handle), c.c_uint16, _P(ClientCounted)],
     "tank_client_owes": [_P(_Handle), c.c_uint16, c.c_uint32, _P(c.c_uint32)],
+    "tank_client_events": [_P(_Handle), _P(Event), _size, _P(_size)],
     "tank_client_close": [_P(_Handle)],
     "tank_server_open": [_P(_Handle), _P(Settings), _P(Shape), c.c_uint64, _bytes, _size, _P(c.c_uint64)],
     "tank_server_step": [_P(_Handle), c.c_uint64, _bytes, _size, _P(_Step)],
@@ -139,6 +150,7 @@ _CALLS = {
     "tank_server_epoch": [_P(_Handle)],
     "tank_server_counts": [_P(_Handle), _P(ServerCounted)],
     "tank_server_due": [_P(_Handle), _P(c.c_uint64)],
+    "tank_server_events": [_P(_Handle), _P(Event), _size, _P(_size)],
     "tank_server_close": [_P(_Handle)],
     "tank_version": [],
     "tank_frame_at": [_bytes, _size, _P(Frame)],
@@ -252,6 +264,7 @@ class _Node:
         self._step_call = getattr(_library, f"tank_{kind}_step")
         self._take_call = getattr(_library, f"tank_{kind}_take")
         self._close_call = getattr(_library, f"tank_{kind}_close")
+        self._events_call = getattr(_library, f"tank_{kind}_events")
 
     def _stepped(self, now, frame):
         result = self._step_call(self._ref, now, frame, len(frame), self._step_ref)
@@ -269,6 +282,19 @@ class _Node:
             if not self._count.value:
                 return pieces[0] if len(pieces) == 1 else b"".join(pieces)
             pieces.append(c.string_at(self._out, self._count.value))
+
+    def events(self):
+        """What the last step told, in order."""
+        room, count = 16, _size()
+        while True:
+            found = (Event * room)()
+            result = self._events_call(self._ref, found, room, c.byref(count))
+            if RESULTS.get(result) != "TANK_SHORT_ROOM":
+                break
+            room = count.value
+        if result:
+            raise Refused(result)
+        return found[:count.value]
 
     def close(self):
         self._close_call(self._ref)
@@ -318,7 +344,7 @@ class Client(_Node):
         return found
 
     def owes(self, server, ino):
-        """Whether an ask waits for this file of the server, so that demands for it are held back."""
+        """Whether an ask waits for this file of the server, so demands for it are held back."""
         found = c.c_uint32()
         result = _library.tank_client_owes(self._ref, server, ino, c.byref(found))
         if result:

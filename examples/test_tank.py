@@ -5,7 +5,7 @@ import pathlib
 import re
 
 import tank
-from tank import ANSWERS, ASKS, ENDS, RESULTS, Ask, Client, Done, Refused, Server, Settings, Shape, Tag, frames_of
+from tank import ANSWERS, ASKS, ENDS, EVENTS, RESULTS, Ask, Client, Done, Refused, Server, Settings, Shape, Tag, frames_of
 
 SETTINGS = Settings(10000, 5000, 7000, 8500, 1000, 500, 101, 100, 1)
 SHAPE = Shape(1, 1, 1, 64)
@@ -54,6 +54,7 @@ def test_numbers():
     header = (pathlib.Path(__file__).resolve().parent.parent / "include/tank.h").read_text()
     assert ASKS == numbers_of(header, "TANK_ASKS", "TANK_ASK_")
     assert ANSWERS == numbers_of(header, "TANK_ANSWERS", "TANK_ANSWER_")
+    assert EVENTS == numbers_of(header, "TANK_EVENTS", "TANK_EVENT_")
     assert tank.version() == int(re.search(r"#define TANK_VERSION (\d+)", header)[1])
 
 
@@ -172,6 +173,36 @@ def test_nodes_are_counted():
     refused(server.counts, "TANK_ABSENT")
 
 
+def events(node):
+    """The events of a node's last step, each with its name and its fields that aren't 0."""
+    names = {number: name for name, number in EVENTS.items()}
+    return [(names[it.event], {name: value for name, value in counted(it).items() if name != "event"}) for it in node.events()]
+
+
+def test_events_are_told():
+    journal = Journal()
+    with Server(SETTINGS, SHAPE, 0, journal.bytes, journal.keep) as server, Client(SETTINGS, 1, [0]) as client:
+        assert events(server) == [] and events(client) == []
+        (hello,) = client.step(10, told(1, 65, READ[:4] + b"\1" + READ[5:] + bytes(4096)))
+        assert events(client) == []
+        (welcome,) = server.step(10, hello)
+        assert events(server) == [("welcomed", {"client": 1, "life": 1})]
+        (acquire,) = client.step(10, welcome)
+        assert events(client) == [("leased", {"server": 1, "moment": 10010})]
+        (granted,) = server.step(10, acquire)
+        assert events(server) == [("granted", {"client": 1, "ino": 2, "grant": (1 << 32) + 1, "mode": 2})]
+        (allocate,) = client.step(10, granted)
+        (extents,) = server.step(10, allocate)
+        client.step(10, extents)
+        assert ("written", {"server": 1, "ino": 2}) in events(client)
+        client.step(20000, tank.tick(1))
+        assert events(client) == [("lost", {"server": 1, "life": 1})]
+        client.step(20000, tank.tick(2))  # for another node
+        assert events(client) == []
+    refused(client.events, "TANK_ABSENT")
+    refused(server.events, "TANK_ABSENT")
+
+
 def test_a_server_is_due():
     journal = Journal()
     with Server(SETTINGS, SHAPE, 0, journal.bytes, journal.keep) as server, Client(SETTINGS, 1, [0]) as one, Client(SETTINGS, 2, [0]) as two:
@@ -187,8 +218,10 @@ def test_a_server_is_due():
         (demand,) = server.step(510, tank.tick(32769))
         assert demand[5] == 37 and server.due() == 1010
         server.step(1010, tank.tick(32769))  # the first one is suspected
+        assert events(server) == [("suspected", {"client": 1, "moment": 1010})]
         assert server.counts().suspects == 1 and server.due() == 1010 + 10101
         server.step(11111, tank.tick(32769))  # its lock is stolen, and granted to the second one
+        assert events(server) == [("stolen", {"client": 1, "life": 1}), ("granted", {"client": 2, "ino": 2, "grant": (1 << 32) + 2, "mode": 2})]
         assert server.counts().suspects == 0 and server.due() is None
     refused(server.due, "TANK_ABSENT")
 

@@ -141,6 +141,33 @@ struct tank_settings {
     uint64_t lease, renew, quiesce, flush, demand, retry, num, den, grain;
 };
 
+/* Number, name and text of each event. A step tells events beside its frames: what its server or
+ * client did, or what became of it. */
+#define TANK_EVENTS(X)                                                                             \
+    X(1, TANK_EVENT_SUSPECTED, "a client left a demand unanswered, and is suspected")              \
+    X(2, TANK_EVENT_STOLEN, "the locks of a client's session were stolen")                         \
+    X(3, TANK_EVENT_CUT, "a file was cut")                                                         \
+    X(4, TANK_EVENT_GRANTED, "a grant of a lock was sent")                                         \
+    X(5, TANK_EVENT_WELCOMED, "a client's greeting was accepted")                                  \
+    X(6, TANK_EVENT_LEASED, "a lease was begun or renewed")                                        \
+    X(7, TANK_EVENT_LOST, "a lease was lost with its life")                                        \
+    X(8, TANK_EVENT_WRITTEN, "an ask wrote to a page")
+
+enum tank_event_number { TANK_EVENTS(TANK_NUMBERED) TANK_EVENTS_END };
+
+/* An event. A field that isn't told is 0. A cut counts once its record is kept. */
+struct tank_event {
+    uint64_t life;   /* stolen, welcomed and lost: the life of the session or the lease */
+    uint64_t moment; /* suspected: when the client's timer started; leased: when the lease ends */
+    uint64_t grant;  /* granted: the number of the grant */
+    uint32_t event;  /* a number of TANK_EVENTS */
+    uint32_t ino;    /* cut, granted and written: the inode number of the file */
+    uint32_t page;   /* cut: the first page that goes; written: the page */
+    uint32_t mode;   /* granted: 1 shared, 2 exclusive */
+    uint16_t client; /* suspected, stolen, granted and welcomed: the client's number */
+    uint16_t server; /* cut, leased, lost and written: the server's number */
+};
+
 /* A client. */
 
 struct tank_client {
@@ -212,6 +239,12 @@ uint32_t tank_client_counts(const struct tank_client *client, uint16_t server,
  * isn't a step. TANK_ABSENT. */
 uint32_t tank_client_owes(const struct tank_client *client, uint16_t server, uint32_t ino,
                           uint32_t *is_owed);
+
+/* Writes what the last step told to events[0 .. *count), in order. After the next step, or one that
+ * ran out of memory, it is gone. This isn't a step. TANK_ABSENT, TANK_NO_MEMORY, TANK_SHORT_ROOM:
+ * `events` stays as it was; at TANK_SHORT_ROOM *count is the number of events. */
+uint32_t tank_client_events(const struct tank_client *client, struct tank_event *events,
+                            size_t room, size_t *count);
 
 /* Closes a client and frees what it holds. Its dirty pages and locks are gone, as after a crash. A
  * handle that isn't open stays as it is. */
@@ -320,6 +353,10 @@ uint32_t tank_server_counts(const struct tank_server *server, struct tank_server
  * a tick would do something at any moment. Ask for it again after each step. This isn't a step.
  * TANK_ABSENT, TANK_NO_MEMORY. */
 uint32_t tank_server_due(const struct tank_server *server, uint64_t *due);
+
+/* As for a client, while a record must be kept, too. */
+uint32_t tank_server_events(const struct tank_server *server, struct tank_event *events,
+                            size_t room, size_t *count);
 
 /* Closes a server and frees what it holds, as a crash would. A handle that isn't open stays as it
  * is. */

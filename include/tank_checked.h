@@ -50,6 +50,14 @@ static inline uint32_t tank_client_owes_checked(const struct tank_client *client
 }
 #define tank_client_owes tank_client_owes_checked
 
+static inline uint32_t tank_client_events_checked(const struct tank_client *client,
+        struct tank_event *events, size_t room, size_t *count) {
+    if (!client || !count || (!events && room)) return TANK_NULL;
+    return tank_client_events(client, events ? events : (struct tank_event *)(void *)count, room,
+        count);
+}
+#define tank_client_events tank_client_events_checked
+
 static inline void tank_client_close_checked(struct tank_client *client) {
     if (!client) return;
     tank_client_close(client);
@@ -111,6 +119,14 @@ static inline uint32_t tank_server_due_checked(const struct tank_server *server,
     return tank_server_due(server, due);
 }
 #define tank_server_due tank_server_due_checked
+
+static inline uint32_t tank_server_events_checked(const struct tank_server *server,
+        struct tank_event *events, size_t room, size_t *count) {
+    if (!server || !count || (!events && room)) return TANK_NULL;
+    return tank_server_events(server, events ? events : (struct tank_event *)(void *)count, room,
+        count);
+}
+#define tank_server_events tank_server_events_checked
 
 static inline void tank_server_close_checked(struct tank_server *server) {
     if (!server) return;

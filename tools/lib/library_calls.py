@@ -1,11 +1,12 @@
 """The calls of crates/tank_c and the structures that they take, as its sources declare them. The
-structures of frames are those of crates/st_host_frames.
+structures of frames are those of crates/st_host_frames, and that of events is in crates/st_embed.
 """
 import pathlib
 import re
 
 CRATES = pathlib.Path(__file__).resolve().parents[2] / "crates"
 SOURCES = CRATES / "tank_c/src"
+BELOW = ("st_embed", "st_host_frames")  # crates below it with structures that it takes
 NUMBERS = ("u16", "u32", "u64", "usize", "bool")
 
 
@@ -30,7 +31,7 @@ def structures():
     pointer that it holds.
     """
     found = {}
-    for path in sorted(it for crate in ("tank_c", "st_host_frames") for it in (CRATES / crate / "src").glob("*.rt")):
+    for path in sorted(it for crate in ("tank_c", *BELOW) for it in (CRATES / crate / "src").glob("*.rt")):
         for name, body in re.findall(r"#\[repr\(C\)\]\n(?:#\[derive\([^)]*\)\]\n)?pub struct (\w+) \{\n(.*?)\n\}", path.read_text(), re.S):
             lines = [re.sub(r"^(pub )?", "", line.strip()).rstrip(",") for line in body.split("\n") if "ghost " not in line and "///" not in line]
             found[name] = [tuple(line.split(": ", 1)) for line in lines]
@@ -44,8 +45,8 @@ def made_of(name, made):
     for field, kind in made[name]:
         array = re.fullmatch(r"\[\w+; (\d+)\]", kind)
         values.append(f"{field}: {made_of(kind, made) if kind in made else f'[0; {array[1]}]' if array else 0}")
-    folder = "st_host_frames::" if any(f"pub struct {name} " in it.read_text() for it in (CRATES / "st_host_frames/src").glob("*.rt")) else ""
-    return f"{folder}{name} {{ {', '.join(values)} }}"
+    crates = [crate for crate in BELOW if any(f"pub struct {name} " in it.read_text() for it in (CRATES / crate / "src").glob("*.rt"))]
+    return f"{''.join(it + '::' for it in crates)}{name} {{ {', '.join(values)} }}"
 
 
 def main_text(named):

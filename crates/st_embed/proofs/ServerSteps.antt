@@ -1,6 +1,6 @@
 -- A step of a server inside another program.
 use Rattle.st_lemmas.proofs.Words
-use Words.{◌≡◌, ℕ, ◌≤◌, Bool, true, false, List, refl, sym, ap, subst, ◌∙◌, arith, if◌then◌else◌, Option, Some, None, IfSome, is_some, Stamp, Body, Message}
+use Words.{◌≡◌, ℕ, ◌≤◌, Bool, true, false, List, refl, sym, ap, subst, ◌∙◌, arith, if◌then◌else◌, Option, Some, None, IfSome, is_some, Stamp, Body, Message, Output}
 use Words.Server.{Stable}
 use Rattle.st_durable.specs.Durable.{DurableServer, Tells, asked_of}
 use Rattle.st_journal.specs.Changes.{fits}
@@ -10,6 +10,7 @@ use Rattle.st_journal.proofs.ScannedBytes.{bytes_few}
 use Rattle.st_node.specs.Runs.{handle}
 use Rattle.st_node.specs.declared.node.Node.TheVariants.{Server}
 use Rattle.st_embed.specs.Servers.{EmbeddedServer, IsAskedBy, MayStep, Steps}
+use Rattle.st_embed.specs.StepOutputs.{server_outputs}
 use Rattle.st_embed.proofs.StableParts.{record_long}
 
 some_is : {A : Type 0} (x y : A) → Some x ≡ Some y → x ≡ y
@@ -36,11 +37,11 @@ room_of : (o : Option Change) (size gate : ℕ) (x : Change) → IfSome o (λ y.
 room_of None size gate x room e = absurd cc
 room_of (Some y) size gate x room e = subst (λ (z : Change). room_for z ≤ room_behind size gate) (some_is y x e) room.1
 
-pub has_stepped : (old : EmbeddedServer) (new : DurableServer) (b : Bool) (left : List ℕ) (now : Stamp) (frame : List ℕ) (m : Message) → MayStep old now frame m → old.unkept ≡ false →
-    (is_some (asked_of m.body) ≡ true → 526 ≤ room_behind old.size old.gate) → Server new.node ≡ (handle (Server old.server.node) now m).node → left ≡ (handle (Server old.server.node) now m).out →
+pub has_stepped : (old : EmbeddedServer) (new : DurableServer) (b : Bool) (left : List ℕ) (outputs : List Output) (now : Stamp) (frame : List ℕ) (m : Message) → MayStep old now frame m → old.unkept ≡ false →
+    (is_some (asked_of m.body) ≡ true → 526 ≤ room_behind old.size old.gate) → Server new.node ≡ (handle (Server old.server.node) now m).node → left ≡ (handle (Server old.server.node) now m).out → outputs ≡ server_outputs old.server.node now m →
     Tells old.server.node.state.stable new.node.state.stable new.changed → IsAskedBy m.body new.changed → b ≡ is_some new.changed →
-    Steps old (record { server = new; gate = old.gate; size = old.size; unkept = b; left = left; last = now }) now frame
-has_stepped old new b left now frame m may kept room node out told asked e =
+    Steps old (record { server = new; gate = old.gate; size = old.size; unkept = b; left = left; outputs = outputs; last = now }) now frame
+has_stepped old new b left outputs now frame m may kept room node out told_so told asked e =
     let is : (if b then new.changed else None) ≡ new.changed = kept_is new.changed b e in
     record {
       message = m;
@@ -51,6 +52,7 @@ has_stepped old new b left now frame m may kept room node out told asked e =
       in_time = may.in_time;
       node = node;
       left = out;
+      outputs = told_so;
       told = subst (λ (o : Option Change). Tells old.server.node.state.stable new.node.state.stable o) (sym is) told;
       gate = refl;
       size = refl;

@@ -9,6 +9,7 @@ use Rattle.st_base.specs.declared.ids.Stamp.{Stamp}
 use Rattle.st_client.specs.Nodes.{crashed_node, is_begun}
 use Rattle.st_client.specs.Room.{HasRoom}
 use Rattle.st_messages.specs.declared.message.Message.{Message}
+use Rattle.st_messages.specs.declared.output.Output.{Output}
 use Rattle.st_node.specs.Runs.{handle}
 use Rattle.st_node.specs.declared.node.Node.TheVariants.{Client}
 use Rattle.st_rules.specs.Client.{ClientNode, crash_node, fresh_node, start_node}
@@ -16,15 +17,17 @@ use Rattle.st_rules.specs.ClientState.{ClientState}
 use Rattle.st_embed.specs.Checks.{is_in_time}
 use Rattle.st_host_frames.specs.Frame.{received}
 use Rattle.st_embed.specs.Lives.{four_lives, same_lives}
+use Rattle.st_embed.specs.StepOutputs.{client_outputs}
 use Rattle.st_embed.specs.declared.fault.OpenFault.{OpenFault}
 use Rattle.st_embed.specs.declared.fault.OpenFault.TheVariants as opening
 use Rattle.st_embed.specs.declared.fault.StepRefusal.{StepRefusal}
 use Rattle.st_embed.specs.declared.fault.StepRefusal.TheVariants as refusals
 
--- a client, the bytes of its frames that must still be taken out, and the moment of its last step
+-- a client, the bytes of its frames that must still be taken out, the outputs of its last step, and the moment of that
 pub record EmbeddedClient : Type 0 where
   pub node : ClientNode
   pub left : List ℕ
+  pub outputs : List Output
   pub last : Stamp
 
 -- Opening.
@@ -42,7 +45,7 @@ begun id k lives = if list_all is_none lives then fresh_node id k (length lives)
 
 -- it holds no bytes
 abbrev pub opened : ClientId → Config → List ℕ → EmbeddedClient
-opened id k lives = record { node = begun id k lives; left = []; last = record { 0 = 0 } }
+opened id k lives = record { node = begun id k lives; left = []; outputs = []; last = record { 0 = 0 } }
 
 -- a life that may be kept: one that began, and after which another may begin in which steps are taken
 abbrev pub is_kept : ℕ → Bool
@@ -91,6 +94,7 @@ pub record Steps (old new : EmbeddedClient) (now : Stamp) (frame : List ℕ) : T
   pub in_time : is_in_time old.last now ≡ true
   pub node : Client new.node ≡ (handle (Client old.node) now message).node
   pub left : new.left ≡ (handle (Client old.node) now message).out
+  pub outputs : new.outputs ≡ client_outputs old.node now message
   pub last : new.last ≡ now
 
 -- Why there is no step, in the order of the checks. Memory may run out for a client that runs; then, if the step may be taken, the node crashes.
@@ -101,7 +105,7 @@ Refuses old new now frame refusals.Time = (old.node.running ≡ true) × (old.le
 Refuses old new now frame (refusals.Frame f) = (old.node.running ≡ true) × (old.left ≡ []) × (is_in_time old.last now ≡ true) × (received frame ≡ Err f) × (new ≡ old)
 Refuses old new now frame refusals.Full = (old.node.running ≡ true) × (old.left ≡ []) × (is_in_time old.last now ≡ true) × IsOk (received frame) × (HasRoom old.node.state → ⊥) × (new ≡ old)
 Refuses old new now frame refusals.Memory = (old.node.running ≡ true) × (new ≡ old)
-Refuses old new now frame refusals.Starved = ((m : Message) × MayStep old now frame m) × (new ≡ record { node = crash_node old.node; left = []; last = now })
+Refuses old new now frame refusals.Starved = ((m : Message) × MayStep old now frame m) × (new ≡ record { node = crash_node old.node; left = []; outputs = []; last = now })
 
 -- A life at one of the servers has changed.
 abbrev pub has_new_life : ClientState → ClientState → Bool

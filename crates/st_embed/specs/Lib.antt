@@ -2,6 +2,8 @@
 pub mod Checks
 pub mod Lives
 pub mod FramePieces
+pub mod StepOutputs
+pub mod Events
 pub mod Clients
 pub mod Servers
 pub mod Journals

@@ -13,6 +13,7 @@ use Rattle.st_journal.specs.declared.change.Change.{Change}
 use Rattle.st_journal.specs.declared.change.Change.TheVariants.{Epoch}
 use Rattle.st_messages.specs.declared.message.Body.{Body}
 use Rattle.st_messages.specs.declared.message.Message.{Message}
+use Rattle.st_messages.specs.declared.output.Output.{Output}
 use Rattle.st_node.specs.Runs.{handle}
 use Rattle.st_node.specs.declared.node.Node.TheVariants.{Server}
 use Rattle.st_rules.specs.Server.{ServerNode, Stable, crash_node, fresh_node, start_node}
@@ -20,6 +21,7 @@ use Rattle.st_server.specs.Restart.{crashed_node}
 use Rattle.st_server.specs.Room.{HasRoom}
 use Rattle.st_server.specs.Invariants.{AreMapped, AreNamed}
 use Rattle.st_embed.specs.Checks.{is_in_time}
+use Rattle.st_embed.specs.StepOutputs.{server_outputs}
 use Rattle.st_host_frames.specs.Frame.{received}
 use Rattle.st_embed.specs.declared.fault.ServerFault.{ServerFault}
 use Rattle.st_embed.specs.declared.fault.ServerFault.TheVariants as opening
@@ -30,13 +32,14 @@ use Rattle.st_embed.specs.declared.fault.StepRefusal.TheVariants as refusals
 use Rattle.st_embed.specs.declared.server.Shape.{Shape}
 
 -- A server with the change of its last step or start; where the gate is after the changes that are kept in its journal, and how many bytes the journal has;
--- whether the change must still be kept; the bytes of its frames that must be taken out; and the moment of its last step.
+-- whether the change must still be kept; the bytes of its frames that must be taken out; the outputs of its last step; and the moment of that.
 pub record EmbeddedServer : Type 0 where
   pub server : DurableServer
   pub gate : ℕ
   pub size : ℕ
   pub unkept : Bool
   pub left : List ℕ
+  pub outputs : List Output
   pub last : Stamp
 
 -- The gate lies in the journal, and a change that must be kept has room after it.
@@ -99,6 +102,7 @@ pub record Opens (id : ServerId) (k : Config) (w : Shape) (now : Stamp) (bytes :
   pub room : room_for Epoch ≤ room_behind e.size e.gate
   pub unkept : e.unkept ≡ true
   pub left : e.left ≡ []
+  pub outputs : e.outputs ≡ []
   pub last : e.last ≡ now
 
 -- why a server that crashed with this stable part is not started
@@ -165,6 +169,7 @@ pub record Steps (old new : EmbeddedServer) (now : Stamp) (frame : List ℕ) : T
   pub in_time : is_in_time old.last now ≡ true
   pub node : Server (node_of new) ≡ (handle (Server (node_of old)) now message).node
   pub left : new.left ≡ (handle (Server (node_of old)) now message).out
+  pub outputs : new.outputs ≡ server_outputs (node_of old) now message
   pub told : Tells (stable_now old) (stable_now new) (to_keep new)
   pub gate : new.gate ≡ old.gate
   pub size : new.size ≡ old.size
@@ -182,6 +187,7 @@ pub record Starves (old new : EmbeddedServer) (now : Stamp) (frame : List ℕ) :
   pub node : IsStarved (node_of old) (node_of new) now message
   pub unkept : new.unkept ≡ false
   pub left : new.left ≡ []
+  pub outputs : new.outputs ≡ []
 
 -- why a step as of any node is refused, in the order of the checks
 abbrev pub RefusesStep : EmbeddedServer → EmbeddedServer → Stamp → List ℕ → StepRefusal → Type 0

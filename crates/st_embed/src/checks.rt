@@ -35,8 +35,8 @@ pub(crate) fn read_step(alloc: Global, frame: &[u8]) -> Result<Message, StepRefu
 /// Whether all bytes were taken out.
 pub(crate) fn check_taken(pending: &mut PendingFrames) -> Result<(), StepRefusal>
     ensures same { pending.new ≡ pending.old }
-    ensures ok { OnOk result (pending.old ≡ []) }
-    ensures err { IfErr result (IsUntaken pending.old) }
+    ensures ok { OnOk result (pending.old.left ≡ []) }
+    ensures err { IfErr result (IsUntaken pending.old.left) }
 {
     match pending.len() {
         Ok(0) => Ok(()),

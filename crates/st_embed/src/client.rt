@@ -9,6 +9,9 @@ ghost use Rattle.st_client.specs.Nodes.{crashed_node};
 ghost use Rattle.st_embed.specs.Clients.{MayOpen, MayStep, NotOpened, Refuses, Steps, are_lives, begun, has_new_life, is_kept, life, opened};
 ghost use Rattle.st_embed.specs.Clients as clients;
 ghost use Rattle.st_embed.specs.FramePieces.{Takes};
+ghost use Rattle.st_embed.specs.StepOutputs.{client_outputs};
+ghost use Rattle.st_embed.specs.Events.{events_in};
+ghost use Rattle.st_host_frames.specs.Results.{NotPut, Puts};
 ghost use Rattle.st_messages.specs.Ranges.{fits};
 ghost use Rattle.st_node.specs.Runs.{client_frame, handle};
 ghost use Rattle.st_node.specs.declared.node.Node.TheVariants as nodes;
@@ -16,12 +19,14 @@ ghost use Rattle.st_rules.specs.Client as client;
 ghost use Rattle.st_rules.specs.World as world;
 
 use crate::checks::{check_taken, is_in_time, read_step};
+use crate::events::TankEvent;
 use crate::fault::{OpenFault, StepRefusal};
 use crate::lives::{are_kept, are_none, are_same, lives_now, lives_of};
 use crate::outbox::Sender;
 use crate::pending_frames::PendingFrames;
 use st_base::{ClientId, Config, Life, ServerId, Stamp};
 use st_client::{ClientCounts, ClientInput, ClientNode, Outputs, Phase, StepFault};
+use st_host_frames::HostFault;
 use st_messages::Message;
 use st_node::client_input_of;
 use std::alloc::{AllocError, Global};
@@ -42,7 +47,7 @@ impl Model for EmbeddedClient {
 
     ghost Value = { shown.EmbeddedClient };
 
-    ghost view = { λ c. record { node = c.node; left = c.pending; last = c.last } };
+    ghost view = { λ c. record { node = c.node; left = c.pending.left; outputs = c.pending.outputs; last = c.last } };
 }
 
 /// Whether this is the number of a client.
@@ -115,6 +120,7 @@ fn outputs_for(
     requires room { HasRoom node.old.state }
     ensures node { OnOk result (nodes.Client node.new ≡ (handle (nodes.Client node.old) now message).node) }
     ensures out { IfOk result (λ out. flat_map (client_frame node.old.state.id) out ≡ (handle (nodes.Client node.old) now message).out) }
+    ensures outputs { IfOk result (λ out. out ≡ client_outputs node.old now message) }
     ensures sent { IfOk result (λ out. list_all is_sent out ≡ true) }
     ensures starved { OnErr result (node.new ≡ client.crash_node node.old) }
 {
@@ -235,11 +241,25 @@ impl EmbeddedClient {
     pub fn take(&mut self, out: &mut [u8]) -> Result<usize, AllocError>
         ensures ok { IfOk result (Takes self.old.left self.new.left out.old out.new) }
         ensures node { self.new.node ≡ self.old.node }
+        ensures outputs { self.new.outputs ≡ self.old.outputs }
         ensures last { self.new.last ≡ self.old.last }
         ensures same { OnErr result (self.new ≡ self.old) }
         ensures kept { OnErr result (out.new ≡ out.old) }
     {
         self.pending.take(out)
+    }
+
+    /// Writes to the front of a buffer what the last step told beside its frames, in order, and
+    /// returns how many events there are.
+    ///
+    /// # Errors
+    /// `Room` if the buffer is too short, with the number of events; `Memory`. Both change nothing.
+    pub fn events(&self, out: &mut [TankEvent]) -> Result<usize, HostFault>
+        ensures ok { IfOk result (Puts (Ok (events_in self.now.outputs)) out.old out.new) }
+        ensures err { IfErr result (NotPut (Ok (events_in self.now.outputs)) (length out.old)) }
+        ensures kept { OnErr result (out.new ≡ out.old) }
+    {
+        self.pending.events(self.alloc, out)
     }
 
     /// Whether a step may be taken at this moment, and the message of its frame.
@@ -285,7 +305,10 @@ impl EmbeddedClient {
                 self.pending.put(sender, outputs);
                 Ok(!are_same(before, lives_now(&self.node)))
             }
-            Err(_) => Err(StepRefusal::Starved),
+            Err(_) => {
+                self.pending.put(sender, Outputs::new(self.alloc));
+                Err(StepRefusal::Starved)
+            }
         }
     }
 }

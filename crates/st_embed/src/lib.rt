@@ -5,6 +5,7 @@
 
 mod checks;
 mod client;
+mod events;
 mod fault;
 mod journal_image;
 mod law;
@@ -14,6 +15,7 @@ mod pending_frames;
 mod server;
 
 pub use client::EmbeddedClient;
+pub use events::TankEvent;
 pub use fault::{OpenFault, ServerFault, ServerRefusal, StepRefusal};
 pub use law::{a_journal_outlives_crashes, journals_are_of_servers};
 pub use server::{EmbeddedServer, Shape};

@@ -1,5 +1,5 @@
 // A server inside another program.
-ghost use Rattle.std.specs.Prelude.{◌≡◌, ◌≤◌, ◌<◌, ◌^◌, [], true, false, None, Some, is_some, IsOk, IfOk, IfErr, IfSome, OnOk, OnErr, length};
+ghost use Rattle.std.specs.Prelude.{◌≡◌, ◌≤◌, ◌<◌, ◌^◌, [], true, false, None, Some, is_some, Ok, IsOk, IfOk, IfErr, IfSome, OnOk, OnErr, length};
 ghost use Rattle.std.specs.List.{list_all, flat_map};
 ghost use Rattle.std.specs.Option.{option_copied};
 ghost use Rattle.st_base.specs.Config as settings;
@@ -10,6 +10,9 @@ ghost use Rattle.st_due.specs.ServerDue.{server_due};
 ghost use Rattle.st_extents.specs.Layout.{IsWithinLimits};
 ghost use Rattle.st_embed.specs.Servers.{IsAskedBy, IsStarved, MayOpen, MayStart, MayStep, NotOpened, NotTaken, IsOfServer, NotStarted, NotStartedAfter, Opens, Refuses, RefusesStep, Steps, begun, kept, len_by, record_by, start_of, to_keep};
 ghost use Rattle.st_embed.specs.FramePieces.{Takes};
+ghost use Rattle.st_embed.specs.StepOutputs.{server_outputs};
+ghost use Rattle.st_embed.specs.Events.{events_in};
+ghost use Rattle.st_host_frames.specs.Results.{NotPut, Puts};
 ghost use Rattle.st_embed.specs.declared.fault.ServerFault.TheVariants.{Memory};
 ghost use Rattle.st_journal.specs.OpenedJournal.{room_behind};
 ghost use Rattle.st_journal.specs.declared.change.Change.TheVariants as kinds;
@@ -25,12 +28,14 @@ ghost use Rattle.st_server.specs.Room.{HasRoom};
 ghost use Rattle.st_server.specs.Invariants.{is_sent};
 
 use crate::checks::{check_taken, is_in_time, read_step};
+use crate::events::TankEvent;
 use crate::fault::{ServerFault, ServerRefusal, StepRefusal};
 use crate::journal_image::{ReadFault, read_journal};
 use crate::outbox::Sender;
 use crate::pending_frames::PendingFrames;
 use st_base::{Config, Epoch, ServerId, Stamp};
 use st_durable::{Change, DurableServer, Outputs, ServerStable, StepFault};
+use st_host_frames::HostFault;
 use st_journal::{Stable, record_of};
 use st_messages::{Body, Message, NameOp};
 use st_node::server_input_of;
@@ -53,7 +58,7 @@ pub struct Shape {
 /// A server inside another program. Contracts see the server with the change of its last step or
 /// start; where the gate after the changes that are kept in its journal, and how many bytes the
 /// journal has; whether the change must still be kept; the bytes of its frames that must still be
-/// taken out; and the moment of its last step.
+/// taken out; the outputs of its last step, and its moment.
 #[derive(Drop)]
 pub struct EmbeddedServer {
     alloc: Global,
@@ -71,7 +76,7 @@ impl Model for EmbeddedServer {
 
     ghost Value = { shown.EmbeddedServer };
 
-    ghost view = { λ e. record { server = e.server; gate = e.gate; size = e.size; unkept = e.unkept; left = e.pending; last = e.last } };
+    ghost view = { λ e. record { server = e.server; gate = e.gate; size = e.size; unkept = e.unkept; left = e.pending.left; outputs = e.pending.outputs; last = e.last } };
 
     ghost invariant = { λ e. IsPlaced e.gate e.size e.unkept e.server.changed };
 }
@@ -220,6 +225,8 @@ fn outputs_for(
     ensures out { IfOk result (λ o. IfSome o (λ out. flat_map server_frame out ≡ (handle (nodes.Server server.old.node) now message).out)) }
     ensures none { IfOk result (λ o. o ≡ None → (handle (nodes.Server server.old.node) now message).out ≡ []) }
     ensures same { IfOk result (λ o. o ≡ None → server.new.node ≡ server.old.node) }
+    ensures outputs { IfOk result (λ o. IfSome o (λ out. out ≡ server_outputs server.old.node now message)) }
+    ensures no_outputs { IfOk result (λ o. o ≡ None → server_outputs server.old.node now message ≡ []) }
     ensures sent { IfOk result (λ o. IfSome o (λ out. list_all is_sent out ≡ true)) }
     ensures told { IfOk result (λ o. IfSome o (λ out. Tells server.old.node.state.stable server.new.node.state.stable server.new.changed)) }
     ensures asked { IfOk result (λ o. IfSome o (λ out. IsAskedBy message.body server.new.changed)) }
@@ -420,8 +427,14 @@ impl EmbeddedServer {
                 self.unkept = self.server.changed().is_some();
                 Ok(self.unkept)
             }
-            Ok(None) => Ok(false),
-            Err(_) => Err(ServerRefusal::Step(StepRefusal::Starved)),
+            Ok(None) => {
+                self.pending.put(Sender::Server, Outputs::new(self.alloc));
+                Ok(false)
+            }
+            Err(_) => {
+                self.pending.put(Sender::Server, Outputs::new(self.alloc));
+                Err(ServerRefusal::Step(StepRefusal::Starved))
+            }
         }
     }
 
@@ -445,6 +458,19 @@ impl EmbeddedServer {
         let count = record_len(self.unkept());
         self.gate += count;
         self.unkept = false;
+    }
+
+    /// Writes to the front of a buffer what the last step told beside its frames, in order, and
+    /// returns how many events there are. Nothing of it must be kept before.
+    ///
+    /// # Errors
+    /// `Room` if the buffer is too short, with the number of events; `Memory`. Both change nothing.
+    pub fn events(&self, out: &mut [TankEvent]) -> Result<usize, HostFault>
+        ensures ok { IfOk result (Puts (Ok (events_in self.now.outputs)) out.old out.new) }
+        ensures err { IfErr result (NotPut (Ok (events_in self.now.outputs)) (length out.old)) }
+        ensures kept { OnErr result (out.new ≡ out.old) }
+    {
+        self.pending.events(self.alloc, out)
     }
 
     /// How many bytes must still be taken out.

@@ -4,5 +4,6 @@ pub mod Codes
 pub mod Calls
 pub mod ServerCalls
 pub mod FrameCalls
+pub mod Events
 pub mod Counts
 pub mod Due

@@ -6,6 +6,7 @@ ghost use Rattle.tank_c.specs.Calls.{ClientOpens, ClientSteps, ClientTakes, NoCl
 ghost use Rattle.tank_c.specs.Codes.{ABSENT, DONE, VERSION};
 ghost use Rattle.tank_c.specs.Counts.{TellsClientCounts, TellsOwed, TellsServerCounts};
 ghost use Rattle.tank_c.specs.Due.{TellsServerDue, not_told};
+ghost use Rattle.tank_c.specs.Events.{ClientTells, NoClientEvents, NoServerEvents, ServerTells};
 ghost use Rattle.tank_c.specs.FrameCalls.{NoFront, Unshown, Unwritten};
 ghost use Rattle.tank_c.specs.FrameCalls as shown;
 ghost use Rattle.st_host_frames.specs.Answers.{answer_in, entries_by, lost_pages_by};
@@ -25,6 +26,7 @@ pub mod client_slot;
 mod codes;
 mod counts;
 mod due;
+mod events;
 mod frame_calls;
 mod server_calls;
 pub mod server_slot;
@@ -38,13 +40,14 @@ use crate::codes::{
 };
 use crate::counts::{count_client, count_server, owes};
 use crate::due::due_server;
+use crate::events::{client_events, server_events};
 use crate::frame_calls::{no_answer, no_command, no_front};
 use crate::server_calls::{record_server, step_server, take_server};
 use crate::server_slot::ServerSlot;
 pub use client_calls::{TankAssociation, TankClientStepped, TankSettings};
 pub use counts::{TankClientCounted, TankServerCounted};
 pub use server_calls::{TankRecord, TankServerStepped, TankShape};
-use st_embed::{ClientId, EmbeddedClient, EmbeddedServer, ServerId, Shape, Stamp};
+use st_embed::{ClientId, EmbeddedClient, EmbeddedServer, ServerId, Shape, Stamp, TankEvent};
 use st_host_frames::{
     TankAnswer, TankAsk, TankCommand, TankDone, TankEntry, TankFrame, TankLostPage, decode_answer,
     decode_command, decode_entries, decode_lost_pages, encode_ask, encode_done, encode_tick,
@@ -219,6 +222,31 @@ pub extern "C" fn tank_client_owes(
     *is_owed = owes(&held, server, ino);
     client.slot = ClientSlot::of(BoxPointer::of(held));
     DONE
+}
+
+/// Tells what the last step of a client told beside its frames.
+#[unsafe(no_mangle)]
+pub extern "C" fn tank_client_events(
+    client: &mut TankClient,
+    alloc: Global,
+    events: &mut [TankEvent],
+    count: &mut usize,
+) -> u32
+    ensures done { result ≡ DONE → ClientTells client.old.slot.value events.old events.new count.new }
+    ensures refused { result ≢ DONE → NoClientEvents client.old.slot.value (length events.old) result count.new }
+    ensures kept { result ≢ DONE → events.new ≡ events.old }
+    ensures same { client.new.slot.value ≡ client.old.slot.value }
+{
+    if !client.full {
+        *count = 0;
+        return ABSENT;
+    }
+    let held = mem::replace(&mut client.slot, ClientSlot::empty())
+        .into_loose(alloc)
+        .into_box();
+    let code = client_events(&held, events, count);
+    client.slot = ClientSlot::of(BoxPointer::of(held));
+    code
 }
 
 /// Closes a client; a handle that is not open stays so.
@@ -434,6 +462,31 @@ pub extern "C" fn tank_server_due(server: &mut TankServer, alloc: Global, due: &
         .into_loose(alloc)
         .into_box();
     let code = due_server(&held, due);
+    server.slot = ServerSlot::of(BoxPointer::of(held));
+    code
+}
+
+/// Tells what the last step of a server told beside its frames.
+#[unsafe(no_mangle)]
+pub extern "C" fn tank_server_events(
+    server: &mut TankServer,
+    alloc: Global,
+    events: &mut [TankEvent],
+    count: &mut usize,
+) -> u32
+    ensures done { result ≡ DONE → ServerTells server.old.slot.value events.old events.new count.new }
+    ensures refused { result ≢ DONE → NoServerEvents server.old.slot.value (length events.old) result count.new }
+    ensures kept { result ≢ DONE → events.new ≡ events.old }
+    ensures same { server.new.slot.value ≡ server.old.slot.value }
+{
+    if !server.full {
+        *count = 0;
+        return ABSENT;
+    }
+    let held = mem::replace(&mut server.slot, ServerSlot::empty())
+        .into_loose(alloc)
+        .into_box();
+    let code = server_events(&held, events, count);
     server.slot = ServerSlot::of(BoxPointer::of(held));
     code
 }

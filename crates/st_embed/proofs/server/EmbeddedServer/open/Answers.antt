@@ -38,7 +38,8 @@ returns-clause-ok c =
       size = refl;
       room = epoch_room (length c.args.journal.now) c.in-Ok.read.gate (omega (arith, c.if-size-read-lt-MOST_RECORD.false));
       unkept = refl;
-      left = c.new.ensures;
+      left = c.new.ensures.left;
+      outputs = c.new.ensures.outputs;
       last = refl;
     }
 
