@@ -24,7 +24,8 @@ PLANTS = (
         ROOM, "waiting_for_room o t = record (plainly (keep o) t) { room = t.room + 1 }",
         "waiting_for_room o t = record (plainly (without_first (hopeful t.plain.here.store)) (plainly (keep o) t)) { room = t.room + 1 }\n"
         "without_first [] t = t\n"
-        "without_first (v ∷ vs) t = with_store (record t.here.store { pages = record t.here.store.pages { dirty = filter (λ d. not (d.version == v)) t.here.store.pages.dirty } }) t")),
+        "without_first (v ∷ vs) t = with_store (record t.here.store { pages = record t.here.store.pages { dirty = filter (λ d. not (d.version == v)) t.here.store.pages.dirty } }) t"),
+        (ROOM, "ClientState.{ClientSession, Turn, keep}", "ClientState.{ClientSession, Turn, keep, with_store}")),
     third("a change is refused though a page could be written", "FaultsHaveACause", (ROOM, "is_hopeless st = not (nat_lt 0 (length (hopeful st)))", "is_hopeless st = true")),
     # Give locks back.
     third("a lock is given up while dirty", f"DirtyPagesStandAlone {ANYTHING}", (
@@ -49,6 +50,7 @@ PLANTS = (
     # Limits.
     third("a client has one more dirty page than it may", "LimitsAreKept", (ROOM, "is_dirty_full t.limits.dirty t.plain", "is_dirty_full (t.limits.dirty + 1) t.plain"),
           (ROOM, "Prelude.{", "Prelude.{◌+◌, ")),
-    third("a client has one more clean page than it may", "LimitsAreKept", (LIMITS, "with_newest limit c clean = take limit", "with_newest limit c clean = take (limit + 1)"),
-          (LIMITS, "Prelude.{", "Prelude.{◌+◌, ")),
+    third("a client has one more clean page than it may", "LimitsAreKept", (LIMITS, "{ most_clean = m.clean }", "{ most_clean = m.clean + 1 }"), (LIMITS, "Prelude.{", "Prelude.{◌+◌, ")),
+    third("a client has one more lock than it may", "LimitsAreKept", (LIMITS, "limited_session m s = record s { locks = record s.locks { limit = m.locks } }",
+          "limited_session m s = record s { locks = record s.locks { limit = m.locks + 1 } }"), (LIMITS, "Prelude.{", "Prelude.{◌+◌, ")),
 )

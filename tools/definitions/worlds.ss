@@ -102,10 +102,10 @@
   (let ([turn (|st_third.State.third_turn| (record "plain" (field |field state| (field |field node| site)) "beside" beside) '())])
     (and (|st_rules.Safety.is_old| (field |field plain| (field |field client| turn)) message)
          (not (equal? (|st_third.Client.take_input| limits turn now (variant "ThirdInput.Plain" (variant "ClientInput.Control" message))) turn)))))
-(define (third-changes-server? form limits server now message)
+(define (third-changes-server? form server now message)
   (let ([turn (|st_rules.Server.turn| (field |field state| server) '())])
     (and (or (|st_rules.Safety.is_of_other_epoch| (field |field state| turn) message) (|st_rules.Safety.is_of_past_life| (field |field state| turn) message))
-         (not (equal? (field |field state| (|st_third.Server.take_input| form limits turn now (variant "ServerInput.Control" message))) (field |field state| turn))))))
+         (not (equal? (field |field state| (|st_third.Server.take_input| form turn now (variant "ServerInput.Control" message))) (field |field state| turn))))))
 (define (third-old-messages-heard third)
   (let* ([world (field |field world| third)] [clients (field |field clients| world)] [clocks (field |field clocks| world)] [limits (field |field limits| third)]
          [sent (map (lambda (it) (field |field message| it)) (field |field messages| (field |field net| world)))]
@@ -113,7 +113,7 @@
     (append (if (exists (lambda (site beside clock) (exists (lambda (message) (third-changes-client? site beside limits clock message)) all))
                         clients (field |field besides| third) (list-head clocks (length clients)))
                 '((OldMessagesChangeNoClient . last)) '())
-            (if (exists (lambda (server clock) (exists (lambda (message) (third-changes-server? (field |field form| world) limits server clock message)) all))
+            (if (exists (lambda (server clock) (exists (lambda (message) (third-changes-server? (field |field form| world) server clock message)) all))
                         (field |field servers| world) (list-tail clocks (length clients)))
                 '((OldMessagesChangeNoServer . last)) '()))))
 (define (third-judged head events)

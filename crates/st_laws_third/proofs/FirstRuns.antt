@@ -1,6 +1,6 @@
 -- A run of the first two forms, by the definitions of every form, is the run by their own.
 use Rattle.st_lemmas.proofs.Words
-use Words.{◌≡◌, ℕ, false, List, [], ◌∷◌, ◌++◌, ◌+◌, length, map, flat_map, length-map, refl, ap, ◌∙◌, Option, Some, None, Ok}
+use Words.{◌≡◌, ℕ, false, List, [], ◌∷◌, ◌++◌, ◌+◌, length, map, flat_map, length-map, refl, ap, subst, ◌∙◌, if◌then◌else◌, Option, Some, None, Ok}
 use Words.{Event, Observation, WorldRefusal}
 use Words.events
 use Words.Admissible as admissible
@@ -17,7 +17,8 @@ use Rattle.st_laws_clocks.proofs.Kept.{advance_keeps, others_keep}
 use Rattle.st_third.specs.declared.event.ThirdEvent.TheVariants as third
 use Rattle.st_third.specs.Events as every
 use Rattle.st_third.specs.Events.{ThirdWorldTurn, plain_seen, third_counted}
-use Rattle.st_third.specs.Limits.{first_limits, is_third}
+use Rattle.st_third.specs.declared.limits.Limits.{Limits}
+use Rattle.st_third.specs.Limits.{first_limits, is_third, limited_world, with_limits}
 use Rattle.st_third.specs.Run as runs
 use Rattle.st_third.specs.Run.{ThirdRun, run}
 use Rattle.st_third.specs.World as worlds
@@ -49,19 +50,19 @@ record IsSame (head : ℕ) (r : ThirdRun) (p : Run) : Type 0 where
 
 -- a run over these events, in whatever world it begins
 abbrev Goes_on : List Event → Type 0
-Goes_on es = (w : ThirdWorld) → is_third w.world.form ≡ false → w.limits ≡ first_limits → IsSame w.world.form (run (map as_third es) w) (plain.run es w.world)
+Goes_on es = (w : ThirdWorld) → is_third w.world.form ≡ false → IsSame w.world.form (run (map as_third es) w) (plain.run es w.world)
 
-same_run : (es : List Event) (w : ThirdWorld) → is_third w.world.form ≡ false → w.limits ≡ first_limits →
+same_run : (es : List Event) (w : ThirdWorld) → is_third w.world.form ≡ false →
     IsSame w.world.form (run (map as_third es) w) (plain.run es w.world)
 unfolding run plain.run runs.go_on plain.go_on every.world_step every.world_by worlds.refusal ev.world_step ev.world_by
-same_run [] w f l = record { world = refl; seen = refl; refused = refl; form = refl }
-same_run (e ∷ es) w f l = go (λ v. same_run es v) (worlds.plain_refusal w.world e) (admissible.refusal w.world e) (refusal_is w.world f e)
+same_run [] w f = record { world = refl; seen = refl; refused = refl; form = refl }
+same_run (e ∷ es) w f = go (λ v. same_run es v) (worlds.plain_refusal w.world e) (admissible.refusal w.world e) (refusal_is w.world f e)
   where
-    on : Goes_on es → (sc : ThirdWorldTurn) (t : WorldTurn) → IsTurn w.limits sc t → t.world.form ≡ w.world.form →
+    on : Goes_on es → (sc : ThirdWorldTurn) (t : WorldTurn) → IsTurn sc t → t.world.form ≡ w.world.form →
         IsSame w.world.form (runs.go_on (run (map as_third es)) w (Ok sc)) (plain.go_on (plain.run es) w.world (Ok t))
     on rest_of sc t h k =
         let kept : sc.third.world.form ≡ w.world.form = ap (λ (v : World). v.form) h.world ∙ k in
-        let rest = rest_of sc.third (ap is_third kept ∙ f) (h.limits ∙ l) in
+        let rest = rest_of sc.third (ap is_third kept ∙ f) in
         record {
           world = rest.world ∙ ap (λ v. (plain.run es v).world) h.world;
           seen = λ i. h.seen i ∷ (rest.seen ∙ ap (λ v. map all_as_third (plain.run es v).seen) h.world) i;
@@ -73,7 +74,7 @@ same_run (e ∷ es) w f l = go (λ v. same_run es v) (worlds.plain_refusal w.wor
         IsSame w.world.form (runs.go_on (run (map as_third es)) w (every.world_by w (third.Plain e) o))
         (plain.go_on (plain.run es) w.world (ev.world_by w.world e p))
     go rest_of None None q =
-        on rest_of (every.happens (third_counted w) (third.Plain e)) (ev.happens (counted w.world) e) (happens_is (third_counted w) e f l)
+        on rest_of (every.happens (third_counted w) (third.Plain e)) (ev.happens (counted w.world) e) (happens_is (third_counted w) e f)
         (form_stays (counted w.world) e)
     go rest_of (Some r) (Some s) q = record { world = refl; seen = refl; refused = q; form = refl }
     go rest_of None (Some s) q = absurd cc
@@ -127,9 +128,18 @@ report_is form f r p h = λ i. report.opening ++ lines i ++ (ends i)
     ends : runs.ending r r.refused ≡ report.ending p p.refused
     ends = ap (runs.ending r) h.refused ∙ end p.refused
 
+-- A world that begins has the limits of its head only in the third form.
+pub limits_stay : (m : Limits) (w : World) → is_third w.form ≡ false → with_limits m w ≡ w
+unfolding with_limits
+limits_stay m w f = ap (λ b. if b then limited_world m w else w) f
+
 pub first_runs_stay : FirstRunsStay
 unfolding third_world fresh_world
 first_runs_stay k clients servers disks blocks form es f =
+    let v : World = fresh_world k clients servers disks blocks form in
     let w : ThirdWorld = third_world k first_limits clients servers disks blocks form in
-    let h = same_run es w f refl in
+    let e : w.world ≡ v = limits_stay first_limits v f in
+    let h =
+    subst (λ u. IsSame u.form (run (map as_third es) w) (plain.run es u)) e
+    (same_run es w (ap (λ (u : World). is_third u.form) e ∙ f)) in
     record { world = h.world; seen = h.seen; refused = h.refused; report = report_is form f _ _ h }

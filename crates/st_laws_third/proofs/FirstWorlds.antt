@@ -1,6 +1,6 @@
 -- An event of the first two forms does to a world of every form what it does to a world of theirs.
 use Rattle.st_lemmas.proofs.Words
-use Words.{◌≡◌, ℕ, Bool, true, false, map, refl, sym, ap, subst, ◌∙◌, ◌+◌, if◌then◌else◌, nat_le, Option, Some, None, Ok, Err}
+use Words.{◌≡◌, ℕ, Bool, true, false, map, refl, sym, ap, subst, ◌+◌, if◌then◌else◌, nat_le, Option, Some, None, Ok, Err}
 use Words.{Ask, ClientId, ClientInput, Event, IssuedCommand, NodeId, SentMessage, ServerId, ServerInput, Stamp}
 use Words.{DiskCommand}
 use Words.events
@@ -21,26 +21,24 @@ use Rattle.st_rules.specs.declared.input.ServerInput.TheVariants as serving
 use Rattle.st_rules.specs.declared.node.StepRefusal.TheVariants.{Crashed}
 use Rattle.st_third.specs.declared.event.ThirdEvent.TheVariants as third
 use Rattle.st_third.specs.declared.event.ThirdInput.TheVariants as takes
-use Rattle.st_third.specs.declared.limits.Limits.{Limits}
 use Rattle.st_third.specs.Events as every
 use Rattle.st_third.specs.Events.{ThirdWorldTurn, plain_seen, unseen}
-use Rattle.st_third.specs.Limits.{first_limits, is_third, most_bytes}
+use Rattle.st_third.specs.Limits.{is_third, most_bytes}
 use Rattle.st_third.specs.Server.{node_step}
 use Rattle.st_third.specs.World as worlds
 use Rattle.st_third.specs.World.{ThirdWorld}
 use Rattle.st_laws_third.proofs.FirstServers.{node_is, node_step_is}
 
--- what an event does to a world with these limits is this turn of the first two forms
-pub record IsTurn (m : Limits) (sc : ThirdWorldTurn) (t : WorldTurn) : Type 0 where
+-- what an event does to a world is this turn of the first two forms
+pub record IsTurn (sc : ThirdWorldTurn) (t : WorldTurn) : Type 0 where
   pub world : sc.third.world ≡ t.world
   pub seen : sc.seen ≡ map plain_seen t.seen
-  pub limits : sc.third.limits ≡ m
 
-plainly : (w : ThirdWorld) (t : WorldTurn) → IsTurn w.limits (every.as_plain w t) t
-plainly w t = record { world = refl; seen = refl; limits = refl }
+plainly : (w : ThirdWorld) (t : WorldTurn) → IsTurn (every.as_plain w t) t
+plainly w t = record { world = refl; seen = refl }
 
-nothing : (w : ThirdWorld) → IsTurn w.limits (unseen w) (quiet w.world)
-nothing w = record { world = refl; seen = refl; limits = refl }
+nothing : (w : ThirdWorld) → IsTurn (unseen w) (quiet w.world)
+nothing w = record { world = refl; seen = refl }
 
 -- Clients.
 
@@ -52,112 +50,103 @@ stopped w c input site e =
 
 module _ (w : ThirdWorld) (f : is_third w.world.form ≡ false) where
   running_is : (c : ClientId) (input : ClientInput) (site : WorldClient) →
-      IsTurn w.limits (every.running_takes w c (takes.Plain input) site) (ev.client_takes w.world c input site)
+      IsTurn (every.running_takes w c (takes.Plain input) site) (ev.client_takes w.world c input site)
   unfolding every.running_takes every.plain_takes
   running_is c input site = go (is_third w.world.form) f
     where
       go : (b : Bool) → b ≡ false →
-          IsTurn w.limits
+          IsTurn
           (if b then every.third_takes w c (takes.Plain input) site (worlds.beside_of w c) else every.plain_takes w c (takes.Plain input) site)
           (ev.client_takes w.world c input site)
       go false e = plainly w (ev.client_takes w.world c input site)
       go true e = absurd cc
 
   client_is : (c : ClientId) (input : ClientInput) (site : WorldClient) →
-      IsTurn w.limits (every.client_takes w c (takes.Plain input) site) (ev.client_takes w.world c input site)
+      IsTurn (every.client_takes w c (takes.Plain input) site) (ev.client_takes w.world c input site)
   unfolding every.client_takes
   client_is c input site = go site.node.running refl
     where
       go : (b : Bool) → site.node.running ≡ b →
-          IsTurn w.limits (if b then every.running_takes w c (takes.Plain input) site else unseen w) (ev.client_takes w.world c input site)
+          IsTurn (if b then every.running_takes w c (takes.Plain input) site else unseen w) (ev.client_takes w.world c input site)
       go true e = running_is c input site
-      go false e = subst (IsTurn w.limits (unseen w)) (stopped w.world c input site e) (nothing w)
+      go false e = subst (IsTurn (unseen w)) (stopped w.world c input site e) (nothing w)
 
   at_client_is : (c : ClientId) (input : ClientInput) (site : Option WorldClient) →
-      IsTurn w.limits (every.at_client w c (takes.Plain input) site) (ev.at_client w.world c input site)
+      IsTurn (every.at_client w c (takes.Plain input) site) (ev.at_client w.world c input site)
   unfolding every.at_client ev.at_client
   at_client_is c input None = nothing w
   at_client_is c input (Some site) = client_is c input site
 
   asks_is : (c : ClientId) (ask : Ask) (site : Option WorldClient) →
-      IsTurn w.limits (every.asks_at w c (λ op. takes.Plain (inputs.App op ask)) site) (ev.asks_at w.world c ask site)
+      IsTurn (every.asks_at w c (λ op. takes.Plain (inputs.App op ask)) site) (ev.asks_at w.world c ask site)
   unfolding every.asks_at ev.asks_at
   asks_is c ask None = nothing w
   asks_is c ask (Some site) = client_is c (inputs.App (site.asks + 1) ask) (asked_once_more site)
 
-  tells_is : (k : ℕ) (ok : Bool) (c : Option IssuedCommand) → IsTurn w.limits (every.tells w k ok c) (ev.tells w.world k ok c)
+  tells_is : (k : ℕ) (ok : Bool) (c : Option IssuedCommand) → IsTurn (every.tells w k ok c) (ev.tells w.world k ok c)
   unfolding every.tells every.tells_client every.tells_site ev.tells ev.tells_client ev.tells_site
   tells_is k ok None = nothing w
   tells_is k ok (Some c) = at (site_of w.world c.client)
     where
       by_instance : (site : WorldClient) (b : Bool) →
-          IsTurn w.limits (if b then every.client_takes w c.client (takes.Plain (ev.end_told w.world k ok c)) site else unseen w)
+          IsTurn (if b then every.client_takes w c.client (takes.Plain (ev.end_told w.world k ok c)) site else unseen w)
           (if b then ev.client_takes w.world c.client (ev.end_told w.world k ok c) site else quiet w.world)
       by_instance site true = client_is c.client (ev.end_told w.world k ok c) site
       by_instance site false = nothing w
 
-      at : (site : Option WorldClient) → IsTurn w.limits (every.tells_client w k ok c site) (ev.tells_client w.world k ok c site)
+      at : (site : Option WorldClient) → IsTurn (every.tells_client w k ok c site) (ev.tells_client w.world k ok c site)
       at None = nothing w
       at (Some site) = by_instance site (is_same_instance c site)
 
   -- Servers.
-  module _ (l : w.limits ≡ first_limits) where
-    at_server_is : (s : ServerId) (input : ServerInput) (node : Option ServerNode) →
-        IsTurn w.limits (every.at_server w s input node) (ev.at_server w.world s input node)
-    unfolding every.at_server every.server_takes ev.at_server ev.server_takes
-    at_server_is s input None = nothing w
-    at_server_is s input (Some node) =
-        let now : Stamp = clock_of w.world (nodes.Server s) in
-        let e : node_step w.world.form w.limits node now input ≡ server.node_step node now input =
-        ap (λ m. node_step w.world.form m node now input) l ∙ node_step_is w.world.form node now input f in
-        subst (λ r. IsTurn w.limits (every.as_plain w (ev.server_took w.world s r)) (ev.server_took w.world s (server.node_step node now input))) (sym e)
-        (plainly w (ev.server_took w.world s (server.node_step node now input)))
+  at_server_is : (s : ServerId) (input : ServerInput) (node : Option ServerNode) →
+      IsTurn (every.at_server w s input node) (ev.at_server w.world s input node)
+  unfolding every.at_server every.server_takes ev.at_server ev.server_takes
+  at_server_is s input None = nothing w
+  at_server_is s input (Some node) =
+      let now : Stamp = clock_of w.world (nodes.Server s) in
+      let e : node_step w.world.form node now input ≡ server.node_step node now input = node_step_is w.world.form node now input f in
+      subst (λ r. IsTurn (every.as_plain w (ev.server_took w.world s r)) (ev.server_took w.world s (server.node_step node now input))) (sym e)
+      (plainly w (ev.server_took w.world s (server.node_step node now input)))
 
-    ticks_is : (n : NodeId) → IsTurn w.limits (every.ticks w n) (ev.ticks w.world n)
-    unfolding every.ticks ev.ticks
-    ticks_is (nodes.Client c) = at_client_is c inputs.Tick (site_of w.world c)
-    ticks_is (nodes.Server s) = at_server_is s serving.Tick (node_of w.world s)
+  ticks_is : (n : NodeId) → IsTurn (every.ticks w n) (ev.ticks w.world n)
+  unfolding every.ticks ev.ticks
+  ticks_is (nodes.Client c) = at_client_is c inputs.Tick (site_of w.world c)
+  ticks_is (nodes.Server s) = at_server_is s serving.Tick (node_of w.world s)
 
-    delivers_is : (m : Option SentMessage) → IsTurn w.limits (every.delivers w m) (ev.delivers w.world m)
-    unfolding every.delivers every.delivers_to ev.delivers ev.delivers_to
-    delivers_is None = nothing w
-    delivers_is (Some m) =
-        subst (λ n. IsTurn w.limits (every.delivers_to w m.message n) (ev.delivers_to w.world m.message (receiver_of m)))
-        (sym (node_is w.world.form m.message.header.to f)) (at (receiver_of m))
-      where
-        at : (n : NodeId) → IsTurn w.limits (every.delivers_to w m.message n) (ev.delivers_to w.world m.message n)
-        at (nodes.Client c) = at_client_is c (inputs.Control m.message) (site_of w.world c)
-        at (nodes.Server s) = at_server_is s (serving.Control m.message) (node_of w.world s)
+  delivers_is : (m : Option SentMessage) → IsTurn (every.delivers w m) (ev.delivers w.world m)
+  unfolding every.delivers every.delivers_to ev.delivers ev.delivers_to
+  delivers_is None = nothing w
+  delivers_is (Some m) =
+      subst (λ n. IsTurn (every.delivers_to w m.message n) (ev.delivers_to w.world m.message (receiver_of m)))
+      (sym (node_is w.world.form m.message.header.to f)) (at (receiver_of m))
+    where
+      at : (n : NodeId) → IsTurn (every.delivers_to w m.message n) (ev.delivers_to w.world m.message n)
+      at (nodes.Client c) = at_client_is c (inputs.Control m.message) (site_of w.world c)
+      at (nodes.Server s) = at_server_is s (serving.Control m.message) (node_of w.world s)
 
 -- Crashes and starts.
 
-without_beside_is : (m : Limits) (n : NodeId) (sc : ThirdWorldTurn) (t : WorldTurn) → IsTurn m sc t → IsTurn m (every.without_beside n sc) t
-unfolding every.without_beside every.without_beside_at
-without_beside_is m (nodes.Server s) sc t h = h
-without_beside_is m (nodes.Client c) sc t h = at (site_of sc.third.world c)
-  where
-    at : (site : Option WorldClient) → IsTurn m (every.without_beside_at c sc site) t
-    at None = h
-    at (Some site) = record { world = h.world; seen = h.seen; limits = h.limits }
+begins_is : (w : ThirdWorld) (n : NodeId) (t : WorldTurn) → is_third w.world.form ≡ false → IsTurn (every.begins w n (every.as_plain w t)) t
+unfolding every.begins
+begins_is w n t f =
+    subst (λ b. IsTurn (if b then every.node_begins n (every.as_plain w t) else every.as_plain w t) t) (sym f) (plainly w t)
 
 -- Events.
 
-pub happens_is : (w : ThirdWorld) (e : Event) → is_third w.world.form ≡ false → w.limits ≡ first_limits →
-    IsTurn w.limits (every.happens w (third.Plain e)) (ev.happens w.world e)
+pub happens_is : (w : ThirdWorld) (e : Event) → is_third w.world.form ≡ false → IsTurn (every.happens w (third.Plain e)) (ev.happens w.world e)
 unfolding every.happens every.plain_happens every.reports_of ev.happens ev.reports_of
-happens_is w (events.Tick n) f l = ticks_is w f l n
-happens_is w (events.App c ask) f l = asks_is w f c ask (site_of w.world c)
-happens_is w (events.Deliver k) f l = delivers_is w f l (message_of w.world k)
-happens_is w (events.Lose k) f l = plainly w (ev.happens w.world (events.Lose k))
-happens_is w (events.Cut from to) f l = plainly w (ev.happens w.world (events.Cut from to))
-happens_is w (events.Heal from to) f l = plainly w (ev.happens w.world (events.Heal from to))
-happens_is w (events.Advance steps) f l = plainly w (ev.happens w.world (events.Advance steps))
-happens_is w (events.Effect k) f l = plainly w (ev.happens w.world (events.Effect k))
-happens_is w (events.Report k ok) f l = tells_is (every.with_report k ok w) f k ok (issued_of w.world k)
-happens_is w (events.Crash n) f l =
-    without_beside_is w.limits n _ _ (plainly w (ev.happens w.world (events.Crash n)))
-happens_is w (events.Start n) f l =
-    without_beside_is w.limits n _ _ (plainly w (ev.happens w.world (events.Start n)))
+happens_is w (events.Tick n) f = ticks_is w f n
+happens_is w (events.App c ask) f = asks_is w f c ask (site_of w.world c)
+happens_is w (events.Deliver k) f = delivers_is w f (message_of w.world k)
+happens_is w (events.Lose k) f = plainly w (ev.happens w.world (events.Lose k))
+happens_is w (events.Cut from to) f = plainly w (ev.happens w.world (events.Cut from to))
+happens_is w (events.Heal from to) f = plainly w (ev.happens w.world (events.Heal from to))
+happens_is w (events.Advance steps) f = plainly w (ev.happens w.world (events.Advance steps))
+happens_is w (events.Effect k) f = plainly w (ev.happens w.world (events.Effect k))
+happens_is w (events.Report k ok) f = tells_is (every.with_report k ok w) f k ok (issued_of w.world k)
+happens_is w (events.Crash n) f = begins_is w n (ev.happens w.world (events.Crash n)) f
+happens_is w (events.Start n) f = begins_is w n (ev.happens w.world (events.Start n)) f
 
 -- Refusals.
 

@@ -12,6 +12,7 @@ use Rattle.st_third.specs.declared.event.ThirdInput.TheVariants as third
 use Rattle.st_third.specs.declared.limits.Limits.{Limits}
 use Rattle.st_third.specs.Client as client
 use Rattle.st_third.specs.Leave.{lose}
+use Rattle.st_third.specs.Limits.{limited_association}
 use Rattle.st_third.specs.Replies.{receive, receive_at}
 use Rattle.st_third.specs.State.{Beside, ThirdClient, ThirdClientTurn, ThirdTurn, at_each, at_these}
 use Rattle.st_third.specs.State.{beside_of, enter, fresh_beside_client, leave, only_at, third_turn}
@@ -101,15 +102,17 @@ step_stays m c now input h =
 
 -- Crashes and starts.
 
-fresh_paired : (c : ClientState) → length (fresh_beside_client c).besides ≡ length c.associations
+begun_paired : (m : Limits) (c d : ClientState) → length d.associations ≡ length c.associations → StaysPaired c (client.begun m d)
 unfolding fresh_beside_client
-fresh_paired c = length-map c.associations beside_of
+begun_paired m c d e =
+    let n = length-map d.associations (limited_association m) in
+    record { paired = length-map d.associations beside_of ∙ sym n; whole = n ∙ e }
 
 pub clients_stay_paired : ClientsStayPaired
 unfolding client.crash client.start plain.crash plain.start
 clients_stay_paired =
     record {
       steps = step_stays;
-      crashes = λ c. let e = length-map c.associations plain.crashed_association in record { paired = fresh_paired c ∙ sym e; whole = e };
-      starts = λ c. let e = length-map c.associations plain.started_association in record { paired = fresh_paired c ∙ sym e; whole = e };
+      crashes = λ m c. begun_paired m c (plain.crash c) (length-map c.associations plain.crashed_association);
+      starts = λ m c. begun_paired m c (plain.start c) (length-map c.associations plain.started_association);
     }

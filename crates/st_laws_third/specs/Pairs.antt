@@ -19,5 +19,5 @@ pub record StaysPaired (before : ClientState) (after : ThirdClient) : Type 0 whe
 -- A step keeps each association, and what is beside it; a crash and a start begin so.
 pub record ClientsStayPaired : Type 0 where
   pub steps : (m : Limits) (c : ThirdClient) (now : Stamp) (input : ThirdInput) → IsPaired c → StaysPaired c.plain (client_step m c now input).client
-  pub crashes : (c : ClientState) → StaysPaired c (crash c)
-  pub starts : (c : ClientState) → StaysPaired c (start c)
+  pub crashes : (m : Limits) (c : ClientState) → StaysPaired c (crash m c)
+  pub starts : (m : Limits) (c : ClientState) → StaysPaired c (start m c)

@@ -12,7 +12,7 @@ use Rattle.st_messages.specs.declared.output.Output.TheVariants as outputs
 use Rattle.st_rules.specs.declared.client.ClientInput.{ClientInput}
 use Rattle.st_rules.specs.declared.client.ClientInput.TheVariants.{Tick, App, Control, Done}
 use Rattle.st_rules.specs.declared.client.Ended.{Ended}
-use Rattle.st_rules.specs.declared.client.Ended.TheVariants.{Filled, Hard, Failed}
+use Rattle.st_rules.specs.declared.client.Ended.TheVariants.{Failed}
 use Rattle.st_rules.specs.declared.client.IoKind.{IoKind}
 use Rattle.st_rules.specs.declared.client.IoKind.TheVariants.{Read, Write}
 use Rattle.st_rules.specs.declared.client.Operation.{Operation}
@@ -21,13 +21,13 @@ use Rattle.st_rules.specs.Client as client
 use Rattle.st_rules.specs.ClientPages as pages
 use Rattle.st_rules.specs.ClientPasses as passes
 use Rattle.st_rules.specs.ClientPasses.{Asking}
-use Rattle.st_rules.specs.ClientState.{ClientSession, ClientState, Turn, file_of, is_of, is_sent, is_serving, keep, server_of, with_operations, with_store}
+use Rattle.st_rules.specs.ClientState.{ClientSession, ClientState, Turn, file_of, is_of, is_sent, is_serving, keep, server_of, with_operations}
 use Rattle.st_third.specs.declared.beside.Leave.{Leave}
 use Rattle.st_third.specs.declared.event.ThirdInput.{ThirdInput}
 use Rattle.st_third.specs.declared.event.ThirdInput.TheVariants as inputs
 use Rattle.st_third.specs.declared.limits.Limits.{Limits}
 use Rattle.st_third.specs.declared.output.ThirdOutput.TheVariants as says
-use Rattle.st_third.specs.Limits.{fill, harden, limits_open}
+use Rattle.st_third.specs.Limits.{limited_client, limits_open}
 use Rattle.st_third.specs.State.{
   ThirdClient,
   ThirdClientTurn,
@@ -88,21 +88,8 @@ app m t op ask = ask_by m t op (server_of ask) (take_plainly op ask)
 unfoldable pub app_leave : Limits → ThirdClientTurn → ℕ → ServerId → ThirdClientTurn
 app_leave m t op s = ask_by m t op s (take_leave op)
 
--- Ends of commands: clean pages within their limit; and a failed write of the server's pages
--- answers its leaves.
-
--- a page was read
-abbrev pub with_filled : ℕ → PageCommand → List ℕ → Turn → Turn
-with_filled limit c bytes t = with_store (record t.here.store { pages = fill limit t.here.store.pages c.ino c.page bytes }) t
-
--- by what was found
-abbrev pub filled_by : ℕ → PageCommand → Option (Tag × List ℕ) → Turn → Turn
-filled_by limit c None t = t
-filled_by limit c (Some block) t = with_filled limit c (pages.found t.here.store.extents (client.file_of_command t c) c.page block.0 block.1) t
-
--- a page was written, and is as it was
-abbrev pub hardened : ℕ → PageCommand → Turn → Turn
-hardened limit c t = with_store (record t.here.store { pages = harden limit t.here.store.pages c.ino c.page }) t
+-- Ends of commands, as in the other forms; and a failed write of the server's pages answers its
+-- leaves.
 
 -- the page's failed command
 abbrev pub mark_failed : PageCommand → ℕ → Turn → Turn
@@ -117,12 +104,14 @@ unfoldable pub failed_as : ThirdTurn → PageCommand → IoKind → ThirdTurn
 failed_as t c Read = plainly (read_failed c) t
 failed_as t c (Write version) = answer_with_leaves (client.waits_for_write t.plain c) (answers.DiskFault c.number) (plainly (mark_failed c version) t)
 
+-- a command ended, as in the other forms
+abbrev pub finished : PageCommand → Option (Tag × List ℕ) → Ended → Turn → Turn
+finished c block ended t = client.finish_as t c block ended
+
 -- by how the command ended
 unfoldable pub finish_as : ThirdTurn → PageCommand → Option (Tag × List ℕ) → Ended → ThirdTurn
-finish_as t c block Filled = plainly (filled_by t.limits.clean c block) t
-finish_as t c block Hard = plainly (hardened t.limits.clean c) t
 finish_as t c block Failed = failed_as t c c.kind
-finish_as t c block ended = t
+finish_as t c block ended = plainly (finished c block ended) t
 
 -- it is no longer outstanding
 abbrev pub ended_by : ThirdTurn → PageCommand → Option (Tag × List ℕ) → pages.CommandEnd → ThirdTurn
@@ -284,13 +273,17 @@ work m t now input = at_each m (third_passes now (is_tick input)) t
 unfoldable pub client_step : Limits → ThirdClient → Stamp → ThirdInput → ThirdClientTurn
 client_step m c now input = work m (take_input m (losses m (third_turn c []) now) now input) now input
 
+-- a client that has nothing yet: with its limits, and nothing beside it
+abbrev pub begun : Limits → ClientState → ThirdClient
+begun m c = record { plain = limited_client m c; beside = fresh_beside_client c }
+
 -- Crash: the lives are kept, and all else is emptied.
-unfoldable pub crash : ClientState → ThirdClient
-crash c = record { plain = client.crash c; beside = fresh_beside_client c }
+unfoldable pub crash : Limits → ClientState → ThirdClient
+crash m c = begun m (client.crash c)
 
 -- Start: each life rises by 1, and all else is empty.
-unfoldable pub start : ClientState → ThirdClient
-start c = record { plain = client.start c; beside = fresh_beside_client c }
+unfoldable pub start : Limits → ClientState → ThirdClient
+start m c = begun m (client.start c)
 
 -- opens all of this file and of those below it
 unfoldable pub third_client_open : ⊤

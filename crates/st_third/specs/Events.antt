@@ -19,7 +19,7 @@ use Rattle.st_rules.specs.declared.world.SentMessage.{SentMessage}
 use Rattle.st_rules.specs.ClientState.{ClientState}
 use Rattle.st_rules.specs.Disks as disks
 use Rattle.st_rules.specs.Events as plain
-use Rattle.st_rules.specs.Events.{WorldTurn, at_node, asked_once_more, counted, disks_after, end_told, is_same_instance, life_over, quiet, with_disks, with_ended, with_flushes, with_site, events_open}
+use Rattle.st_rules.specs.Events.{WorldTurn, at_node, asked_once_more, counted, disks_after, end_told, is_same_instance, life_over, quiet, with_disks, with_ended, with_flushes, with_node, with_site, events_open}
 use Rattle.st_rules.specs.Server.{ServerNode}
 use Rattle.st_rules.specs.World.{WorldClient, clock_of, issued_of, message_of, node_of, site_of, with_numbered}
 use Rattle.st_third.specs.declared.event.ThirdEvent.{ThirdEvent}
@@ -31,7 +31,7 @@ use Rattle.st_third.specs.declared.observation.ThirdObservation.TheVariants as s
 use Rattle.st_third.specs.declared.output.ThirdOutput.{ThirdOutput}
 use Rattle.st_third.specs.declared.output.ThirdOutput.TheVariants as says
 use Rattle.st_third.specs.Client.{client_step, third_client_open}
-use Rattle.st_third.specs.Limits.{is_third}
+use Rattle.st_third.specs.Limits.{is_third, limited_node, limited_site}
 use Rattle.st_third.specs.Server.{node_step, third_server_open}
 use Rattle.st_third.specs.State.{ClientBeside, ThirdClient, ThirdClientTurn, fresh_beside_client}
 use Rattle.st_third.specs.World.{ThirdWorld, beside_of, receiver_of, refusal, third_world_open}
@@ -132,7 +132,7 @@ at_client w c input (Some site) = client_takes w c input site
 -- A step of a server.
 unfoldable pub server_takes : ThirdWorld → ServerId → ServerInput → ServerNode → ThirdWorldTurn
 server_takes w s input node =
-    as_plain w (plain.server_took w.world s (node_step w.world.form w.limits node (clock_of w.world (nodes.Server s)) input))
+    as_plain w (plain.server_took w.world s (node_step w.world.form node (clock_of w.world (nodes.Server s)) input))
 
 -- a server that is there takes an input
 unfoldable pub at_server : ThirdWorld → ServerId → ServerInput → Option ServerNode → ThirdWorldTurn
@@ -183,15 +183,33 @@ with_report k ok w = record w { world = with_disks (disks_after w.world.disks (d
 unfoldable pub reports_of : ThirdWorld → ℕ → Bool → ThirdWorldTurn
 reports_of w k ok = tells (with_report k ok w) k ok (issued_of w.world k)
 
--- A client that crashes or starts has nothing beside its state.
-unfoldable pub without_beside_at : ClientId → ThirdWorldTurn → Option WorldClient → ThirdWorldTurn
-without_beside_at c sc None = sc
-without_beside_at c sc (Some site) = record sc { third = with_beside c (fresh_beside_client site.node.state) sc.third }
+-- A node of the third form that crashed or started has its limits, and a client has nothing beside its
+-- state.
 
--- of a client; a server has nothing beside
-unfoldable pub without_beside : NodeId → ThirdWorldTurn → ThirdWorldTurn
-without_beside (nodes.Client c) sc = without_beside_at c sc (site_of sc.third.world c)
-without_beside (nodes.Server s) sc = sc
+-- a client that is there
+unfoldable pub client_begins : ThirdWorldTurn → ClientId → Option WorldClient → ThirdWorldTurn
+client_begins sc c None = sc
+client_begins sc c (Some site) =
+    record sc {
+      third =
+          with_beside c (fresh_beside_client site.node.state)
+          (record sc.third { world = with_site c (limited_site sc.third.limits site) sc.third.world });
+    }
+
+-- a server that is there
+unfoldable pub server_begins : ThirdWorldTurn → ServerId → Option ServerNode → ThirdWorldTurn
+server_begins sc s None = sc
+server_begins sc s (Some node) =
+    record sc { third = record sc.third { world = with_node s (limited_node sc.third.limits node) sc.third.world } }
+
+-- a client or a server
+unfoldable pub node_begins : NodeId → ThirdWorldTurn → ThirdWorldTurn
+node_begins (nodes.Client c) sc = client_begins sc c (site_of sc.third.world c)
+node_begins (nodes.Server s) sc = server_begins sc s (node_of sc.third.world s)
+
+-- in the third form
+unfoldable pub begins : ThirdWorld → NodeId → ThirdWorldTurn → ThirdWorldTurn
+begins w n sc = if is_third w.world.form then node_begins n sc else sc
 
 -- What an admissible event of the other forms does.
 unfoldable pub plain_happens : ThirdWorld → Event → ThirdWorldTurn
@@ -199,8 +217,8 @@ plain_happens w (events.Tick n) = ticks w n
 plain_happens w (events.App c ask) = asks_at w c (λ op. takes.Plain (inputs.App op ask)) (site_of w.world c)
 plain_happens w (events.Deliver k) = delivers w (message_of w.world k)
 plain_happens w (events.Report k ok) = reports_of w k ok
-plain_happens w (events.Crash n) = without_beside n (as_plain w (plain.happens w.world (events.Crash n)))
-plain_happens w (events.Start n) = without_beside n (as_plain w (plain.happens w.world (events.Start n)))
+plain_happens w (events.Crash n) = begins w n (as_plain w (plain.happens w.world (events.Crash n)))
+plain_happens w (events.Start n) = begins w n (as_plain w (plain.happens w.world (events.Start n)))
 plain_happens w e = as_plain w (plain.happens w.world e)
 
 -- What an admissible event does.
@@ -223,5 +241,5 @@ world_step w e = world_by w e (refusal w e)
 
 -- opens all of this file and of those below it
 unfoldable pub third_events_open : ⊤
-unfolding events_open third_client_open third_server_open third_world_open client_says client_says_all client_took third_takes plain_takes running_takes client_takes at_client server_takes at_server ticks asks_at delivers_to delivers tells_site tells_client tells reports_of without_beside_at without_beside plain_happens happens world_by world_step
+unfolding events_open third_client_open third_server_open third_world_open client_says client_says_all client_took third_takes plain_takes running_takes client_takes at_client server_takes at_server ticks asks_at delivers_to delivers tells_site tells_client tells reports_of client_begins server_begins node_begins begins plain_happens happens world_by world_step
 third_events_open = tt

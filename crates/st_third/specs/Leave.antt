@@ -17,9 +17,11 @@ use Rattle.st_rules.specs.ClientLocks as locks
 use Rattle.st_rules.specs.ClientLocks.{LockCache}
 use Rattle.st_rules.specs.ClientPages.{Store}
 use Rattle.st_rules.specs.ClientPasses as passes
-use Rattle.st_rules.specs.ClientState.{ClientSession, Turn, is_of, note, with_operations}
+use Rattle.st_rules.specs.ClientState.{ClientSession, Turn, is_of, note, with_here, with_operations}
 use Rattle.st_third.specs.declared.beside.Leave.{Leave}
+use Rattle.st_third.specs.declared.limits.Limits.{Limits}
 use Rattle.st_third.specs.declared.output.ThirdOutput.TheVariants as says
+use Rattle.st_third.specs.Limits.{limited_association}
 use Rattle.st_third.specs.State.{
   ThirdTurn,
   answer_leave,
@@ -101,8 +103,12 @@ abbrev pub may_end : ThirdTurn → ClientSession → Bool
 may_end t s = is_leaving t && (is_free s && is_written_out t.plain.here.store)
 
 -- nothing is left but the lost rows
+abbrev pub emptied_here : Limits → Turn → Turn
+emptied_here m t = with_here (limited_association m (client.emptied t.here)) t
+
+-- and nothing is beside it
 abbrev pub emptied : ThirdTurn → ThirdTurn
-emptied t = with_beside fresh_beside (plainly client.empty_here t)
+emptied t = with_beside fresh_beside (plainly (emptied_here t.limits) t)
 
 -- the life ends, with the lease end that it has then
 unfoldable pub end_life : ThirdTurn → ClientSession → ThirdTurn

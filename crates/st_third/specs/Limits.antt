@@ -1,32 +1,17 @@
--- Limits: those of the first two forms, and the rules that take a limit. Each of them says what the
--- rule of the same name in `st_rules` says if the state's own limit is this one.
-use Rattle.std.specs.Prelude.{ℕ, ◌-◌, Bool, true, ◌&&◌, ◌||◌, ◌==◌, nat_lt, nat_le, if◌then◌else◌, List, ◌∷◌, length, take, Option, Some, None, is_some, Result, Ok, Err, ◌≡◌, ⊤}
-use Rattle.st_base.specs.declared.ids.ClientId.{ClientId}
-use Rattle.st_base.specs.declared.ids.Life.{Life}
+-- Forms and limits: how much there may be of what, and a state with the limits of its head.
+use Rattle.std.specs.Prelude.{ℕ, ◌-◌, Bool, true, ◌&&◌, ◌||◌, ◌==◌, nat_le, if◌then◌else◌, length, map, Ok, ◌≡◌, ⊤}
 use Rattle.st_base.specs.declared.ids.NodeId.{NodeId}
 use Rattle.st_base.specs.declared.ids.NodeId.TheVariants as nodes
 use Rattle.st_base.specs.declared.ids.PageNo.{PageNo}
 use Rattle.st_base.specs.declared.config.Config.{Config}
-use Rattle.st_base.specs.declared.mode.Mode.{Mode}
 use Rattle.st_base.specs.Config.{check}
 use Rattle.st_base.specs.Nodes.{SERVER_BASE}
-use Rattle.st_rules.specs.declared.client.CleanPage.{CleanPage}
-use Rattle.st_rules.specs.declared.locks.AcquireRefusal.{AcquireRefusal}
-use Rattle.st_rules.specs.declared.locks.AcquireRefusal.TheVariants.{TooManyLocks}
-use Rattle.st_rules.specs.declared.locks.LockRow.{LockRow}
-use Rattle.st_rules.specs.declared.names.EntryRefusal.{EntryRefusal}
-use Rattle.st_rules.specs.declared.names.EntryRefusal.TheVariants.{Exists, TooMany}
-use Rattle.st_rules.specs.declared.pages.DirtyPage.{DirtyPage}
 use Rattle.st_rules.specs.Keys.{client}
-use Rattle.st_rules.specs.ClientLocks as cache
-use Rattle.st_rules.specs.ClientLocks.{LockCache}
 use Rattle.st_rules.specs.ClientPages as pages
-use Rattle.st_rules.specs.ClientPages.{Pages}
-use Rattle.st_rules.specs.Locks as locks
-use Rattle.st_rules.specs.Locks.{Locks, Acquired}
-use Rattle.st_rules.specs.Names as names
-use Rattle.st_rules.specs.Names.{Names, Changed}
-use Rattle.st_rules.specs.World.{server}
+use Rattle.st_rules.specs.ClientPages.{Pages, Store}
+use Rattle.st_rules.specs.ClientState.{Association, ClientSession, ClientState}
+use Rattle.st_rules.specs.Server.{ServerNode, ServerState}
+use Rattle.st_rules.specs.World.{World, WorldClient, server}
 use Rattle.st_third.specs.declared.limits.Limits.{Limits}
 
 -- Forms.
@@ -107,77 +92,48 @@ node_at form n = if nat_le n (most_clients form) then nodes.Client (client n) el
 abbrev pub is_client_node : ℕ → ℕ → Bool
 is_client_node form node = is_within 1 (most_clients form) node
 
--- Names: create, and make a directory. At the limit of live inodes there is no room.
+-- Limits in a state. Every state begins with the limits of the first two forms; a node of the third
+-- form has those of its head.
 
--- if there is room
-unfoldable pub add_new : ℕ → Names → ℕ → List ℕ → Bool → Result Changed EntryRefusal
-add_new limit n dir name directory = if nat_lt (names.live_inodes n) limit then Ok (names.added n dir name directory) else Err TooMany
-
--- if the name is new
-unfoldable pub add_beside : ℕ → Names → ℕ → List ℕ → Bool → Result Changed EntryRefusal
-add_beside limit n dir name directory = if is_some (names.entry_at n dir name) then Err Exists else add_new limit n dir name directory
-
--- if the place is not refused
-unfoldable pub add_at : ℕ → Names → ℕ → List ℕ → Bool → Option EntryRefusal → Result Changed EntryRefusal
-add_at limit n dir name directory (Some r) = Err r
-add_at limit n dir name directory None = add_beside limit n dir name directory
-
--- a file or a directory is added
-unfoldable pub add : ℕ → Names → ℕ → List ℕ → Bool → Result Changed EntryRefusal
-add limit n dir name directory = add_at limit n dir name directory (names.place_refusal n dir name)
-
--- Locks at a server: a client without a row or a wait on the file is refused at the limit of its
--- files.
-
--- the client waits for the file already, or has fewer files
-abbrev pub has_place : ℕ → Locks → ClientId → ℕ → Bool
-has_place limit l c ino = is_some (locks.wait_of l c ino) || nat_lt (length (locks.files_of l c)) limit
-
--- the client has no row of the file
-unfoldable pub acquire_new : ℕ → Locks → ClientId → Life → ℕ → Mode → Bool → Result Acquired AcquireRefusal
-acquire_new limit l c life ino mode grants = if has_place limit l c ino then Ok (locks.acquire_more l c life ino mode grants) else Err TooManyLocks
-
--- by the row of the file
-unfoldable pub acquire_at : ℕ → Locks → ClientId → Life → ℕ → Mode → Bool → Option LockRow → Result Acquired AcquireRefusal
-acquire_at limit l c life ino mode grants None = acquire_new limit l c life ino mode grants
-acquire_at limit l c life ino mode grants (Some r) = Ok (locks.acquire_over l c life ino mode grants r)
-
--- Acquire
-unfoldable pub acquire : ℕ → Locks → ClientId → Life → ℕ → Mode → Bool → Result Acquired AcquireRefusal
-acquire limit l c life ino mode grants = acquire_at limit l c life ino mode grants (locks.row_of l c ino)
-
--- Locks at a client: there is a place for the file's lock if it has one already, or fewer files do.
-abbrev pub cache_has_place : ℕ → LockCache → ℕ → Bool
-cache_has_place limit c ino = is_some (cache.lock_of c ino) || nat_lt (cache.count c) limit
-
--- Clean pages: a page that is read or hardened is the first one, and the last of too many goes.
-abbrev pub with_newest : ℕ → CleanPage → List CleanPage → List CleanPage
-with_newest limit c clean = take limit (c ∷ pages.without_clean c.ino c.page clean)
-
--- Filling: the page becomes the newest clean one with these bytes.
-unfoldable pub fill : ℕ → Pages → ℕ → PageNo → List ℕ → Pages
-fill limit ps ino p bytes = record ps { clean = with_newest limit (pages.clean_page ino p bytes) ps.clean }
-
--- Using a clean page: it becomes the newest one.
-unfoldable pub use_clean : ℕ → Pages → CleanPage → Pages
-use_clean limit ps c = record ps { clean = with_newest limit c ps.clean }
-
--- Hardening: the dirty page becomes the newest clean one.
-unfoldable pub harden_page : ℕ → Pages → DirtyPage → Pages
-harden_page limit ps d =
-    record ps {
-      clean = with_newest limit (pages.clean_page d.ino d.page d.bytes) ps.clean;
-      dirty = pages.without_dirty d.ino d.page ps.dirty;
+-- a server
+abbrev pub limited_server : Limits → ServerState → ServerState
+limited_server m s =
+    record s {
+      locks = record s.locks { limit = m.locks };
+      stable = record s.stable { names = record s.stable.names { limit = m.inodes } };
     }
 
--- if it is dirty
-unfoldable pub harden_at : ℕ → Pages → Option DirtyPage → Pages
-harden_at limit ps None = ps
-harden_at limit ps (Some d) = harden_page limit ps d
+-- a server's node
+abbrev pub limited_node : Limits → ServerNode → ServerNode
+limited_node m n = record n { state = limited_server m n.state }
 
--- Hardening
-unfoldable pub harden : ℕ → Pages → ℕ → PageNo → Pages
-harden limit ps ino p = harden_at limit ps (pages.dirty_of ps ino p)
+-- what a client has of a server's disks
+abbrev pub limited_store : Limits → Store → Store
+limited_store m st = record st { pages = record st.pages { most_clean = m.clean } }
+
+-- an association without a session
+abbrev pub limited_association : Limits → Association → Association
+limited_association m a = record a { store = limited_store m a.store }
+
+-- a session
+abbrev pub limited_session : Limits → ClientSession → ClientSession
+limited_session m s = record s { locks = record s.locks { limit = m.locks } }
+
+-- a client without sessions
+abbrev pub limited_client : Limits → ClientState → ClientState
+limited_client m c = record c { associations = map (limited_association m) c.associations }
+
+-- a client of the world without sessions
+abbrev pub limited_site : Limits → WorldClient → WorldClient
+limited_site m site = record site { node = record site.node { state = limited_client m site.node.state } }
+
+-- all nodes of a world that begins
+abbrev pub limited_world : Limits → World → World
+limited_world m w = record w { clients = map (limited_site m) w.clients; servers = map (limited_node m) w.servers }
+
+-- in the third form
+unfoldable pub with_limits : Limits → World → World
+with_limits m w = if is_third w.form then limited_world m w else w
 
 -- Dirty pages: as many other pages are dirty as may be.
 abbrev pub is_dirty_full : ℕ → Pages → ℕ → PageNo → Bool
@@ -185,5 +141,5 @@ is_dirty_full limit ps ino p = nat_le limit (length (pages.without_dirty ino p p
 
 -- opens all of this file and of those below it
 unfoldable pub limits_open : ⊤
-unfolding most_clients most_servers most_disks most_blocks most_bytes most_events node_at add_new add_beside add_at add acquire_new acquire_at acquire fill use_clean harden_page harden_at harden
+unfolding most_clients most_servers most_disks most_blocks most_bytes most_events node_at with_limits
 limits_open = tt

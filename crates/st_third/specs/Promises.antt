@@ -11,7 +11,6 @@ use Rattle.st_base.specs.declared.ids.NodeId.TheVariants as nodes
 use Rattle.st_base.specs.declared.mode.Mode.{Mode}
 use Rattle.st_base.specs.Mode.{covers}
 use Rattle.st_base.specs.declared.names.NameAsk.{NameAsk}
-use Rattle.st_base.specs.declared.names.NameAsk.TheVariants.{Create, Mkdir}
 use Rattle.st_messages.specs.declared.ask.Ask.{Ask}
 use Rattle.st_messages.specs.declared.ask.Ask.TheVariants as asks
 use Rattle.st_messages.specs.declared.answer.AppAnswer.{AppAnswer}
@@ -44,7 +43,7 @@ use Rattle.st_rules.specs.Safety as safety
 use Rattle.st_rules.specs.Server.{ServerNode}
 use Rattle.st_promises.specs.Faults as faults
 use Rattle.st_promises.specs.NameAnswers as name_answers
-use Rattle.st_promises.specs.NameAnswers.{Saying, changed, is_of_names, is_saying}
+use Rattle.st_promises.specs.NameAnswers.{Saying, is_of_names, is_saying}
 use Rattle.st_rules.specs.World.{World, WorldClient, all_clients, all_servers, clock_of, life_with, message_of, node_of, same_node, server, site_of}
 use Rattle.st_third.specs.declared.beside.Leave.{Leave}
 use Rattle.st_third.specs.declared.event.ThirdEvent.{ThirdEvent}
@@ -53,7 +52,7 @@ use Rattle.st_third.specs.declared.limits.Limits.{Limits}
 use Rattle.st_third.specs.declared.observation.ThirdObservation.{ThirdObservation}
 use Rattle.st_third.specs.declared.observation.ThirdObservation.TheVariants as seen
 use Rattle.st_third.specs.GiveBack.{is_stuck_lock}
-use Rattle.st_third.specs.Limits.{IsHead, add, cache_has_place}
+use Rattle.st_third.specs.Limits.{IsHead}
 use Rattle.st_third.specs.Room.{is_hopeful}
 use Rattle.st_third.specs.State.{ClientBeside, is_active, is_operation_numbered}
 use Rattle.st_third.specs.Steps.{ThirdStep, plain_event, plain_step, steps, third_traced}
@@ -147,7 +146,7 @@ pub record Owing : Type 0 where
 -- the grant was taken, with a place for it
 abbrev pub is_taken : ℕ → LockCache → LockCache → ℕ → GrantNo → Bool
 is_taken limit old new ino g =
-    (nat_lt (locks.seen_of old ino).0 g.0 && nat_le g.0 (locks.seen_of new ino).0) && cache_has_place limit old ino
+    (nat_lt (locks.seen_of old ino).0 g.0 && nat_le g.0 (locks.seen_of new ino).0) && locks.has_place (record old { limit = limit }) ino
 
 -- the same life, with a session
 abbrev pub is_same_life : World → World → ClientId → ServerId → Bool
@@ -551,11 +550,9 @@ all_lost_whole past x c = list_all (is_lost_whole past x c) (all_servers x.befor
 abbrev pub ExpiredLeasesEmptyClients : ThirdPromise
 ExpiredLeasesEmptyClients past x = list_all (all_lost_whole past x) (all_clients x.before.third.world) ≡ true
 
--- Names answer truly, as in the first two forms, but by the limit of live inodes.
+-- Names answer truly, as in the first two forms, by the limit of live inodes in the head.
 abbrev pub says : ℕ → Names → NameAsk → List Saying
-says limit n (Create dir name) = changed n (add limit n dir name false) ∷ []
-says limit n (Mkdir dir name) = changed n (add limit n dir name true) ∷ []
-says limit n ask = name_answers.says n ask
+says limit n ask = name_answers.says (record n { limit = limit }) ask
 
 -- from the names of a server before an event to those after it
 abbrev pub says_at : ℕ → NameAsk → AppAnswer → Option ServerNode → Option ServerNode → Bool

@@ -13,12 +13,14 @@ use Rattle.st_messages.specs.declared.message.Why.TheVariants as why
 use Rattle.st_rules.specs.declared.client.Asked.{Asked}
 use Rattle.st_rules.specs.declared.client.Asked.TheVariants.{NotHeld}
 use Rattle.st_rules.specs.declared.client.Request.{Request}
+use Rattle.st_rules.specs.ClientLease as lease
 use Rattle.st_rules.specs.ClientLocks as locks
 use Rattle.st_rules.specs.ClientReplies as replies
 use Rattle.st_rules.specs.ClientReplies.{ended_by}
 use Rattle.st_rules.specs.ClientState.{ClientSession, Turn, with_cache}
 use Rattle.st_third.specs.declared.limits.Limits.{Limits}
 use Rattle.st_third.specs.GiveBack.{full_at}
+use Rattle.st_third.specs.Limits.{limited_session}
 use Rattle.st_third.specs.Runs.{is_partly_free, run_restored, with_run_limit}
 use Rattle.st_third.specs.State.{ThirdClientTurn, ThirdTurn, at_each, fresh_beside, plainly, with_beside}
 use Rattle.st_third.specs.UsedOnce.{granted}
@@ -27,13 +29,14 @@ use Rattle.st_third.specs.UsedOnce.{granted}
 abbrev pub is_fresh : Turn → Stamp → Stamp → Bool
 is_fresh t now stamp = is_some t.here.greeting && nat_lt now.0 (stamp.0 + t.config.renew)
 
--- a session begins
-abbrev pub session_begun : Epoch → Stamp → Turn → Turn
-session_begun epoch stamp t = replies.begin_session t epoch stamp
+-- a session begins, with its limit
+abbrev pub session_begun : Limits → Epoch → Stamp → Turn → Turn
+session_begun m epoch stamp t =
+    replies.note_lease (lease.new_lease stamp) (replies.begin_here (limited_session m (replies.new_session epoch stamp)) t)
 
 -- with nothing beside it
 abbrev pub begin_session : ThirdTurn → Epoch → Stamp → ThirdTurn
-begin_session t epoch stamp = with_beside fresh_beside (plainly (session_begun epoch stamp) t)
+begin_session t epoch stamp = with_beside fresh_beside (plainly (session_begun t.limits epoch stamp) t)
 
 -- Welcome
 unfoldable pub welcome : ThirdTurn → Stamp → Epoch → Stamp → ThirdTurn

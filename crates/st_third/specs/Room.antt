@@ -1,17 +1,15 @@
 -- Make room: a change that finds as many other pages dirty as may be waits, and as many of the
 -- oldest dirty pages are written out as changes wait.
-use Rattle.std.specs.Prelude.{ℕ, ◌+◌, Bool, ◌&&◌, ◌||◌, not, ◌==◌, nat_lt, if◌then◌else◌, List, [], ◌∷◌, length, filter, map, take, Option, Some, None, is_some, ⊤}
+use Rattle.std.specs.Prelude.{ℕ, ◌+◌, Bool, ◌&&◌, ◌||◌, not, ◌==◌, nat_lt, if◌then◌else◌, List, [], ◌∷◌, length, filter, map, take, Option, Some, None, ⊤}
 use Rattle.std.specs.List.{list_any}
 use Rattle.st_base.specs.declared.ids.FileId.{FileId}
 use Rattle.st_base.specs.declared.ids.PageNo.{PageNo}
 use Rattle.st_base.specs.declared.ids.Stamp.{Stamp}
-use Rattle.st_base.specs.declared.mode.Mode.TheVariants as modes
 use Rattle.st_messages.specs.declared.ask.Ask.{Ask}
 use Rattle.st_messages.specs.declared.ask.Ask.TheVariants as asks
 use Rattle.st_messages.specs.declared.answer.AppAnswer.TheVariants as answers
 use Rattle.st_messages.specs.declared.output.Note.{Note}
 use Rattle.st_messages.specs.declared.output.Note.TheVariants as notes
-use Rattle.st_rules.specs.declared.client.CleanPage.{CleanPage}
 use Rattle.st_rules.specs.declared.client.Operation.{Operation}
 use Rattle.st_rules.specs.declared.client.PageCommand.{PageCommand}
 use Rattle.st_rules.specs.declared.pages.DirtyPage.{DirtyPage}
@@ -19,11 +17,11 @@ use Rattle.st_rules.specs.Keys.{rising}
 use Rattle.st_rules.specs.FlatLog.{overlay}
 use Rattle.st_rules.specs.ClientLease as lease
 use Rattle.st_rules.specs.ClientPages as pages
-use Rattle.st_rules.specs.ClientPages.{Pages, Store}
+use Rattle.st_rules.specs.ClientPages.{Store}
 use Rattle.st_rules.specs.ClientPasses as passes
-use Rattle.st_rules.specs.ClientPasses.{holds, is_unfailed, may_write}
-use Rattle.st_rules.specs.ClientState.{ClientSession, Turn, keep, with_store}
-use Rattle.st_third.specs.Limits.{is_dirty_full, use_clean}
+use Rattle.st_rules.specs.ClientPasses.{is_unfailed, may_write}
+use Rattle.st_rules.specs.ClientState.{ClientSession, Turn, keep}
+use Rattle.st_third.specs.Limits.{is_dirty_full}
 use Rattle.st_third.specs.State.{ThirdTurn, is_leaving, plainly, session}
 
 -- The oldest dirty pages, by their versions. A page whose write failed doesn't count, unless it is
@@ -79,37 +77,15 @@ unfoldable pub patch : ThirdTurn → ClientSession → Operation → FileId → 
 patch t s o f p at bytes =
     if may_write t.plain s f p then patch_at t o f p at bytes (pages.cached t.plain.here.store.pages f.ino p) else plainly (keep o) t
 
--- Reading a clean page makes it the newest one, within the limit of clean pages.
-abbrev pub is_clean_only : Pages → ℕ → PageNo → Bool
-is_clean_only ps ino p = not (is_some (pages.dirty_of ps ino p))
-
--- the clean page that a read finds
-unfoldable pub clean_found : ThirdTurn → ClientSession → FileId → PageNo → Option CleanPage
-clean_found t s f p =
-    if holds s modes.S f && is_clean_only t.plain.here.store.pages f.ino p then pages.clean_of t.plain.here.store.pages f.ino p else None
-
--- the page becomes the newest
-abbrev pub with_clean_used : ThirdTurn → CleanPage → Turn → Turn
-with_clean_used t c r = with_store (record r.here.store { pages = use_clean t.limits.clean r.here.store.pages c }) r
-
--- a read as in the other forms
-abbrev pub read_plainly : ClientSession → Operation → FileId → PageNo → Turn → Turn
-read_plainly s o f p t = passes.read t s o f p
-
--- the clean page, or anything else
-unfoldable pub read_at : ThirdTurn → ClientSession → Operation → FileId → PageNo → Option CleanPage → ThirdTurn
-read_at t s o f p None = plainly (read_plainly s o f p) t
-read_at t s o f p (Some c) = plainly (passes.answer o (answers.Read c.bytes)) (plainly (with_clean_used t c) t)
-
--- Reading
-unfoldable pub read : ThirdTurn → ClientSession → Operation → FileId → PageNo → ThirdTurn
-read t s o f p = read_at t s o f p (clean_found t s f p)
+-- a read, as in the other forms
+abbrev pub read : ClientSession → Operation → FileId → PageNo → Turn → Turn
+read s o f p t = passes.read t s o f p
 
 -- Serving an operation to which its file is open
 unfoldable pub serve_open : ThirdTurn → ClientSession → Operation → Ask → ThirdTurn
 serve_open t s o (asks.Write f p bytes) = write t s o f p bytes
 serve_open t s o (asks.Patch f p at bytes) = patch t s o f p at bytes
-serve_open t s o (asks.Read f p) = read t s o f p
+serve_open t s o (asks.Read f p) = plainly (read s o f p) t
 serve_open t s o ask = plainly (keep o) t
 
 -- Writes: when the server is being left, every dirty page is wanted; and the oldest pages are due
@@ -164,5 +140,5 @@ writes now tick t = writes_by t now tick (session t)
 
 -- opens all of this file and of those below it
 unfoldable pub room_open : ⊤
-unfolding oldest without_room change_page write patch_at patch clean_found read_at read serve_open is_due write_due write_page write_each writes_by writes
+unfolding oldest without_room change_page write patch_at patch serve_open is_due write_due write_page write_each writes_by writes
 room_open = tt

@@ -13,7 +13,6 @@ use Rattle.st_rules.specs.ClientPasses.{need}
 use Rattle.st_rules.specs.ClientReplies as replies
 use Rattle.st_rules.specs.ClientState.{ClientSession, Turn, forget_wait, is_busy, is_cut_or_name, is_on, is_sent, is_sync}
 use Rattle.st_third.specs.declared.beside.OwedUse.{OwedUse}
-use Rattle.st_third.specs.Limits.{cache_has_place}
 use Rattle.st_third.specs.State.{ThirdTurn, here, is_active, is_operation_numbered, plainly, with_beside, with_its_session}
 
 -- Owing, when a lock is installed: the first active operation on the file that was not sent, isn't
@@ -38,19 +37,18 @@ with_owed ino (Some o) owed = filter (λ u. not (is_owed_on ino u)) owed ++ reco
 unfoldable pub owe : ThirdTurn → ℕ → Mode → ThirdTurn
 owe t ino mode = with_beside (record t.beside { owed = with_owed ino (find (may_be_owed t ino mode) t.plain.operations) t.beside.owed }) t
 
--- Granted: the wait is forgotten. A grant above the greatest seen is installed and owes a use,
--- if there is a place for it, and is given back otherwise.
-unfoldable pub accept_grant : ThirdTurn → ClientSession → ℕ → GrantNo → Mode → ThirdTurn
-accept_grant t s ino g mode = owe (with_its_session (replies.accept_grant s ino g mode) t) ino mode
+-- Granted, as in the other forms: the wait is forgotten. A grant that is installed owes a use: it is
+-- above the greatest seen, and there is a place for it.
+abbrev pub is_installed : ClientSession → ℕ → GrantNo → Bool
+is_installed s ino g = locks.is_above_seen s.locks ino g && locks.has_place s.locks ino
 
--- a grant above the greatest seen
-unfoldable pub grant_new : ThirdTurn → ClientSession → ℕ → GrantNo → Mode → ThirdTurn
-grant_new t s ino g mode =
-    if cache_has_place t.limits.locks s.locks ino then accept_grant t s ino g mode else with_its_session (replies.decline s ino g) t
+-- a grant is taken
+abbrev pub take_grant : ThirdTurn → ClientSession → ℕ → GrantNo → Mode → ThirdTurn
+take_grant t s ino g mode = with_its_session (replies.grant s ino g mode) t
 
--- by what was seen
+-- installed, or not
 unfoldable pub grant : ThirdTurn → ClientSession → ℕ → GrantNo → Mode → ThirdTurn
-grant t s ino g mode = if locks.is_above_seen s.locks ino g then grant_new t s ino g mode else with_its_session s t
+grant t s ino g mode = if is_installed s ino g then owe (take_grant t s ino g mode) ino mode else take_grant t s ino g mode
 
 -- Granted
 unfoldable pub granted : ThirdTurn → ClientSession → ℕ → GrantNo → Mode → ThirdTurn
@@ -123,5 +121,5 @@ reduce_each ds (ino ∷ inos) t = reduce_each ds inos (reduce t ino (find (locks
 
 -- opens all of this file and of those below it
 unfoldable pub used_once_open : ⊤
-unfolding owe accept_grant grant_new grant granted reduce_idle reduce reduce_each
+unfolding owe grant granted reduce_idle reduce reduce_each
 used_once_open = tt

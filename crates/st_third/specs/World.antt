@@ -19,7 +19,7 @@ use Rattle.st_rules.specs.World.{World, WorldClient, fresh_world, message_of, nu
 use Rattle.st_third.specs.declared.event.ThirdEvent.{ThirdEvent}
 use Rattle.st_third.specs.declared.event.ThirdEvent.TheVariants as third
 use Rattle.st_third.specs.declared.limits.Limits.{Limits}
-use Rattle.st_third.specs.Limits.{most_bytes, node_at}
+use Rattle.st_third.specs.Limits.{most_bytes, node_at, with_limits}
 use Rattle.st_third.specs.State.{ClientBeside, fresh_beside_client}
 
 -- The world
@@ -34,7 +34,7 @@ beside_site site = fresh_beside_client site.node.state
 
 -- nothing happened so far
 abbrev pub begun : Limits → World → ThirdWorld
-begun m w = record { world = w; limits = m; besides = map beside_site w.clients }
+begun m w = record { world = with_limits m w; limits = m; besides = map beside_site w.clients }
 
 -- The world at the start: what a head describes.
 unfoldable pub third_world : Config → Limits → ℕ → ℕ → ℕ → ℕ → ℕ → ThirdWorld
