@@ -4,3 +4,14 @@ mod FirstRuns
 mod FirstSteps
 mod FirstHeads
 mod Pairs
+mod Chains
+mod UsedOnce
+mod Rooms
+mod GivingBack
+mod Leaving
+mod Receiving
+mod Finishing
+mod Passing
+mod Facts
+mod Rules
+mod Stepping

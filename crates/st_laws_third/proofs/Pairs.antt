@@ -19,7 +19,7 @@ use Rattle.st_third.specs.State.{beside_of, enter, fresh_beside_client, leave, o
 use Rattle.st_laws_third.specs.Pairs.{ClientsStayPaired, IsPaired, StaysPaired}
 
 -- a turn's client stays paired
-abbrev Stays : ThirdClientTurn → ThirdClientTurn → Type 0
+abbrev pub Stays : ThirdClientTurn → ThirdClientTurn → Type 0
 Stays t u = IsPaired t.client → StaysPaired t.client.plain u.client
 
 still : (t : ThirdClientTurn) → Stays t t
@@ -59,7 +59,7 @@ these_more m rule (a ∷ as_) (b ∷ bs) t e =
 none_and : (n : ℕ) → 0 + n ≡ n
 none_and n = omega arith
 
-each_stays : (m : Limits) (rule : ThirdTurn → ThirdTurn) (t : ThirdClientTurn) → Stays t (at_each m rule t)
+pub each_stays : (m : Limits) (rule : ThirdTurn → ThirdTurn) (t : ThirdClientTurn) → Stays t (at_each m rule t)
 unfolding at_each
 each_stays m rule t h =
     let z = these_more m rule t.client.plain.associations t.client.beside.besides _ h in
@@ -86,7 +86,7 @@ plain_stays m t now (inputs.App op ask) = ask_stays m t op _ _
 plain_stays m t now (inputs.Control message) = receive_stays m t now message.header message.body
 plain_stays m t now (inputs.Done number result) = each_stays m (client.finish number result) t
 
-input_stays : (m : Limits) (t : ThirdClientTurn) (now : Stamp) (input : ThirdInput) → Stays t (client.take_input m t now input)
+pub input_stays : (m : Limits) (t : ThirdClientTurn) (now : Stamp) (input : ThirdInput) → Stays t (client.take_input m t now input)
 unfolding client.take_input client.app_leave
 input_stays m t now (third.Plain input) = plain_stays m t now input
 input_stays m t now (third.Leave op s) = ask_stays m t op s _

@@ -1,2 +1,5 @@
 pub mod FirstForms
 pub mod Pairs
+pub mod Changes
+pub mod Sessions
+pub mod Rules

@@ -1,5 +1,7 @@
 ghost use Rattle.st_laws_third.specs.FirstForms.{FirstHeadsStay, FirstRunsStay, FirstStepsStay};
 ghost use Rattle.st_laws_third.specs.Pairs.{ClientsStayPaired};
+ghost use Rattle.st_laws_third.specs.Rules.{RulesAreChanges};
+ghost use Rattle.st_laws_third.specs.Sessions.{ClientsStepOn};
 
 /// With a head of form 1 or 2, a run by the definitions of every form is the run by those of the
 /// first two forms: it has the same worlds, observations and refusal, and the same report.
@@ -24,4 +26,17 @@ pub fn first_heads_stay()
 /// each step, with as many associations as before, and after a crash and a start.
 pub fn clients_stay_paired()
     ensures { ClientsStayPaired }
+{}
+
+/// Every rule of a client of the third form, at one server, is a list of small changes: those that
+/// the rules of the first two forms are made of, and a few more.
+pub fn third_rules_are_changes()
+    ensures { RulesAreChanges }
+{}
+
+/// What a step of a client of the third form leaves of each of its associations: the server, a life
+/// that is no earlier, and a session whose lease is dated no earlier than before, or by a fresh
+/// welcome. Its dirty pages are still known as mapped.
+pub fn third_clients_step_on()
+    ensures { ClientsStepOn }
 {}

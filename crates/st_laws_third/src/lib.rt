@@ -1,7 +1,10 @@
-//! Laws of the third form: its definitions leave the first two forms as they are, and its clients
-//! keep every association, with what is beside it.
+//! Laws of the third form: its definitions leave the first two forms as they are. Its clients keep
+//! every association, with what is beside it, and their rules are lists of small changes.
 #![tactic(auto)]
 
 mod law;
 
-pub use law::{clients_stay_paired, first_heads_stay, first_runs_stay, first_steps_stay};
+pub use law::{
+    clients_stay_paired, first_heads_stay, first_runs_stay, first_steps_stay,
+    third_clients_step_on, third_rules_are_changes,
+};

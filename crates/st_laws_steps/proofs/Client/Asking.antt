@@ -25,17 +25,17 @@ use Rattle.st_laws_steps.proofs.Client.Passing.{one, both, if_changes, wider}
 use Rattle.st_laws_steps.proofs.Client.Working.{operations_only_keep, reductions_only_keep, writes_only_keep, greeting_only_keep}
 
 -- what an operation asks: where a page lies, only if nothing is known of it; and a file is cut if it is idle
-record Wants (s : ClientSession) (st : Store) (w : cp.Wanted) : Type 0 where
+pub record Wants (s : ClientSession) (st : Store) (w : cp.Wanted) : Type 0 where
   pub asks : (x : ℕ × PageNo) → map_in w.body ≡ Some x → pages.known_of st.extents x.0 x.1 ≡ None
   pub new : reasserts w.body ≡ false
   pub may : MayAsk s (cp.file_cut w.cut) w.body
   pub cuts : (c : ℕ × PageNo) → w.cut ≡ Some c → (pages.is_idle st c.0 ≡ true) × (map_in w.body ≡ None) × (cuts_from w.body ≡ Some c.1)
 
-abbrev WantsAt : ClientSession → Store → Option cp.Wanted → Type 0
+abbrev pub WantsAt : ClientSession → Store → Option cp.Wanted → Type 0
 WantsAt s st None = Unit {0}
 WantsAt s st (Some w) = Wants s st w
 
-abbrev AskingAt : ClientSession → Store → Option cp.Asking → Type 0
+abbrev pub AskingAt : ClientSession → Store → Option cp.Asking → Type 0
 AskingAt s st None = Unit {0}
 AskingAt s st (Some a) = Wants s st a.wanted
 
@@ -144,7 +144,7 @@ unfolding cp.want_at
 wants_at t s now ask None = wants_name t s ask
 wants_at t s now ask (Some ino) = wants_on t s now ask ino
 
-wants_what_it_needs : (t : Turn) (s : ClientSession) (now : Stamp) (ask : Ask) → WantsAt s t.here.store (cp.want t s now ask)
+pub wants_what_it_needs : (t : Turn) (s : ClientSession) (now : Stamp) (ask : Ask) → WantsAt s t.here.store (cp.want t s now ask)
 unfolding cp.want
 wants_what_it_needs t s now (asks.Sync f) = tt
 wants_what_it_needs t s now ask = wants_at t s now ask (file_of ask)
@@ -219,17 +219,20 @@ module _ (now : Stamp) where
           }) (asked (Some c) e)
           (λ x q. none_some x (sym (w.cuts c e).1 ∙ q)))
 
+  -- the request of an operation, or a keep-alive
+  pub changes_by_ask_for_or : (t : Turn) (s : ClientSession) (a : Option cp.Asking) → t.here.session ≡ Some s → s.requests.asked ≡ None → s.due ≡ false →
+      AskingAt s t.here.store a → C t (cp.ask_for_or t s now a)
+  unfolding cp.ask_for_or
+  changes_by_ask_for_or t s None se n d w = changes_by_alive t s se n d
+  changes_by_ask_for_or t s (Some a) se n d w = changes_by_ask_for t s a se n d w
+
   changes_by_ask_new : (t : Turn) (s : ClientSession) → t.here.session ≡ Some s → s.requests.asked ≡ None → C t (cp.ask_new t s now)
-  unfolding cp.ask_new cp.reassert cp.ask_by cp.ask_release cp.ask_next cp.ask_for_or
+  unfolding cp.ask_new cp.reassert cp.ask_by cp.ask_release cp.ask_next
   changes_by_ask_new t s se n = if_changes s.due t _ _
       (λ d. changes_by_plain t s s _ se (alike_stay t.here.store.extents s) (record { free = n; due = sym d; may = tt }) refl) (λ d. by d s.releases)
     where
-      or : s.due ≡ false → (a : Option cp.Asking) → AskingAt s t.here.store a → C t (cp.ask_for_or t s now a)
-      or d None w = changes_by_alive t s se n d
-      or d (Some a) w = changes_by_ask_for t s a se n d w
-
       by : s.due ≡ false → (rs : List Release) → C t (cp.ask_by t s now rs)
-      by d [] = if_changes (is_serving t.config s now) t _ _ (λ e. or d (cp.first_asking t s now t.operations) (wants_first t s now t.operations))
+      by d [] = if_changes (is_serving t.config s now) t _ _ (λ e. changes_by_ask_for_or t s (cp.first_asking t s now t.operations) se n d (wants_first t s now t.operations))
           (λ e. changes_by_alive t s se n d)
       by d (r ∷ rs) = changes_by_plain t s (record s { releases = rs }) _ se
           (record { epoch = refl; requests = refl; cutting = refl; due = refl; date = refl; locks = LocksStay s.locks })

@@ -45,11 +45,11 @@ module _ (now : Stamp) where
   abbrev C : Turn → Turn → Type 0
   C t u = Changes false now t u
 
-  changes_by_tell : (t : Turn) (op ino : ℕ) → C t (cl.tell_lost t op ino)
+  pub changes_by_tell : (t : Turn) (op ino : ℕ) → C t (cl.tell_lost t op ino)
   unfolding cl.tell_lost
   changes_by_tell t op ino = both (one (TellsLost t (pages.untold t.here.lost ino))) (changes_by_answer _ op _ tt)
 
-  changes_by_end : (t : Turn) (s : ClientSession) (o : Operation) → C t (cl.end_operation t s o)
+  pub changes_by_end : (t : Turn) (s : ClientSession) (o : Operation) → C t (cl.end_operation t s o)
   unfolding cl.end_operation cl.end_unsent cl.end_sync
   changes_by_end t s o = if_changes (is_sent o) t _ _ (λ e. changes_by_answer t o.op _ tt) (λ e. unsent o.ask)
     where
@@ -112,9 +112,35 @@ version_is : (ps : pages.Pages) (ino : ℕ) (p : Rattle.st_base.specs.declared.i
     pages.version_of ps ino p ≡ d.version
 version_is ps ino p d e = ap (λ o. unwrap_or (option_map pages.version_of_dirty o) 0) e
 
-end_is : (now : Stamp) (number : ℕ) (ok : Bool) (t : Turn) (c : PageCommand) (block : Option (Tag × List ℕ)) →
+-- a write that failed marks its page, if the page is as it was
+pub failed_ends : (number : ℕ) (t : Turn) (c : PageCommand) (v : ℕ) → pages.command_of t.here.store.commands number ≡ Some c → c.kind ≡ io.Write v →
+    Ends number false t (cl.mark_failed (without number t) c v)
+unfolding cl.mark_failed
+failed_ends number t c v e k = go (cl.is_present (without number t) c v) refl
+  where
+    u : Turn
+    u = without number t
+
+    kind_is : (v w : ℕ) → io.Write v ≡ io.Write w → v ≡ w
+    kind_is v w z = cc
+
+    absent : cl.is_present u c v ≡ false → IsOutdated t c
+    absent f w d q i r =
+        not_both (cl.is_present u c v)
+        (ap (λ (z : Option DirtyPage). is_some z && (pages.version_of t.here.store.pages c.ino c.page == v)) i
+        ∙ eq-eqb (pages.version_of t.here.store.pages c.ino c.page) v (version_is t.here.store.pages c.ino c.page d i ∙ r ∙ sym (kind_is v w (sym k ∙ q))))
+        f
+
+    go : (b : Bool) → cl.is_present u c v ≡ b → Ends number false t (if b then cl.with_failed c u else u)
+    go true f =
+        Fails c v e refl k
+        (eqb-true (pages.version_of t.here.store.pages c.ino c.page) v
+        (and_true (is_some (pages.dirty_of t.here.store.pages c.ino c.page)) (pages.version_of t.here.store.pages c.ino c.page == v) f).1)
+    go false f = Passes c e (absent f)
+
+pub end_is : (now : Stamp) (number : ℕ) (ok : Bool) (t : Turn) (c : PageCommand) (block : Option (Tag × List ℕ)) →
     pages.command_of t.here.store.commands number ≡ Some c → Finished now number ok t (cl.finish_command t c ok block)
-unfolding cl.finish_command cl.ended_by cl.finish_as cl.filled_by cl.failed_as cl.mark_failed pages.end_command pages.end_at pages.fill
+unfolding cl.finish_command cl.ended_by cl.finish_as cl.filled_by cl.failed_as pages.end_command pages.end_at pages.fill
 end_is now number ok t c block e =
     subst (λ m. Finished now number ok t (cl.ended_by t c block (pages.end_at t.here.store.commands m ok version (pages.command_of t.here.store.commands m))))
     (sym n)
@@ -151,29 +177,13 @@ end_is now number ok t c block e =
     written v k o true f = record { mid = cl.hardened u c; ends = Hardens c v e o k (sym (eqb-true v version f)); calm = Still _ }
     written v k o false f = record { mid = u; ends = Passes c e (outdated v k f); calm = Still u }
 
-    failed : (v : ℕ) → c.kind ≡ io.Write v → ok ≡ false → (b : Bool) → cl.is_present u c v ≡ b → Finished now number ok t (cl.failed_as u c (io.Write v))
-    failed v k o true f =
-        subst (λ b. Finished now number ok t
-        (Rattle.st_rules.specs.ClientState.answer_each (cl.waits_for_write u c) (answers.DiskFault c.number) (if b then cl.with_failed c u else u))) (sym f)
-        (record {
-          mid = cl.with_failed c u;
-          ends =
-              Fails c v e o k
-              (eqb-true version v (and_true (is_some (pages.dirty_of t.here.store.pages c.ino c.page)) (version == v) f).1);
-          calm =
-              changes_by_each_answer (cl.waits_for_write u c) (answers.DiskFault c.number) (cl.with_failed c u) tt;
-        })
-    failed v k o false f =
-        subst (λ b. Finished now number ok t
-        (Rattle.st_rules.specs.ClientState.answer_each (cl.waits_for_write u c) (answers.DiskFault c.number) (if b then cl.with_failed c u else u))) (sym f)
-        (record { mid = u; ends = Passes c e absent; calm = changes_by_each_answer (cl.waits_for_write u c) (answers.DiskFault c.number) u tt })
-      where
-        absent : IsOutdated t c
-        absent w d q i r =
-            not_both (cl.is_present u c v)
-            (ap (λ (z : Option DirtyPage). is_some z && (pages.version_of t.here.store.pages c.ino c.page == v)) i
-            ∙ eq-eqb (pages.version_of t.here.store.pages c.ino c.page) v (version_is t.here.store.pages c.ino c.page d i ∙ r ∙ sym (kind_is v w (sym k ∙ q))))
-            f
+    failed : (v : ℕ) → c.kind ≡ io.Write v → ok ≡ false → Finished now number ok t (cl.failed_as u c (io.Write v))
+    failed v k o =
+        record {
+          mid = cl.mark_failed u c v;
+          ends = subst (λ z. Ends number z t (cl.mark_failed u c v)) (sym o) (failed_ends number t c v e k);
+          calm = changes_by_each_answer (cl.waits_for_write u c) (answers.DiskFault c.number) (cl.mark_failed u c v) tt;
+        }
 
     kinds : (k : IoKind) → c.kind ≡ k → (b : Bool) → ok ≡ b →
         Finished now number ok t (cl.finish_as u c block (if b then pages.done_as k version else ends.Failed))
@@ -182,7 +192,7 @@ end_is now number ok t c block e =
     kinds io.Read k false o =
         subst (λ z. Finished now number ok t (cl.failed_as u c z)) (sym k)
         (record { mid = u; ends = Passes c e (read_apart k); calm = changes_by_each_answer (cl.waits_for_read u c) (answers.DiskFault c.number) u tt })
-    kinds (io.Write v) k false o = subst (λ z. Finished now number ok t (cl.failed_as u c z)) (sym k) (failed v k o (cl.is_present u c v) refl)
+    kinds (io.Write v) k false o = subst (λ z. Finished now number ok t (cl.failed_as u c z)) (sym k) (failed v k o)
 
     by_ok : (b : Bool) → ok ≡ b → Finished now number ok t (cl.finish_as u c block (pages.ended_as c ok version))
     by_ok true o = subst (λ b. Finished now number ok t (cl.finish_as u c block (pages.ended_as c b version))) (sym o) (kinds c.kind refl true o)

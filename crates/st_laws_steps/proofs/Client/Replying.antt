@@ -75,7 +75,7 @@ date_renewed stamp l = go (lease.is_renewal stamp l) refl
     go false e = omega arith
 
 -- nothing is known of the page whose place a request asks for
-abbrev Fresh : Store → Body → Type 0
+abbrev pub Fresh : Store → Body → Type 0
 Fresh st asked = (x : ℕ × PageNo) → map_in asked ≡ Some x → pages.known_of st.extents x.0 x.1 ≡ None
 
 module _ (now : Stamp) where
@@ -107,7 +107,7 @@ module _ (now : Stamp) where
       if_changes (cr.is_newer s epoch) t _ _ (λ b. both (one (Follows t s (cr.in_epoch epoch s) e (record { how = NewEpoch s epoch (ltb-true s.epoch.0 epoch.0 (and_true (nat_lt s.epoch.0 epoch.0) _ b).0); date = omega arith; asks = λ x q. absurd (no_page x q) }))) (changes_by_each_answer (is_asked t.here.server) (answers.Uncertain s.epoch.0 epoch.0) (with_session (cr.in_epoch epoch s) t) tt))
       (λ b. Still t)
 
-  changes_by_other : (t : Turn) (s : ClientSession) (epoch : Epoch) (body : Body) → t.here.session ≡ Some s → C t (cr.of_other_epoch t s epoch body)
+  pub changes_by_other : (t : Turn) (s : ClientSession) (epoch : Epoch) (body : Body) → t.here.session ≡ Some s → C t (cr.of_other_epoch t s epoch body)
   unfolding cr.of_other_epoch
   changes_by_other t s epoch (bodies.Nack w a b) e = go w
     where
@@ -116,7 +116,7 @@ module _ (now : Stamp) where
       go w = Still t
   changes_by_other t s epoch body e = Still t
 
-  changes_by_condemn : (t : Turn) (s : ClientSession) → t.here.session ≡ Some s → C t (cr.condemn t s)
+  pub changes_by_condemn : (t : Turn) (s : ClientSession) → t.here.session ≡ Some s → C t (cr.condemn t s)
   unfolding cr.condemn lease.condemned
   changes_by_condemn t s e = changes_by_session t s _ e (alike_condemned t.here.store.extents s)
 
@@ -213,31 +213,56 @@ module _ (now : Stamp) where
   changes_by_effect t s (bodies.Nack w a b) file asked e n f fr = changes_by_refused t w a b file asked
   changes_by_effect t s reply file asked e n f fr = Still t
 
-  changes_by_reply_to : (t : Turn) (s : ClientSession) (stamp : Stamp) (reply asked : Body) → t.here.session ≡ Some s → fits reply asked ≡ true → Fresh t.here.store asked → C t (cr.reply_to t s now stamp reply asked)
-  unfolding cr.reply_to cr.end_request cr.note_renewal cr.note_lease
-  changes_by_reply_to t s stamp reply asked e f fr = go (lease.is_renewal stamp s.lease)
+  -- the request ends
+  pub changes_by_end_request : (t : Turn) (s : ClientSession) (stamp : Stamp) → t.here.session ≡ Some s → C t (cr.end_request t s stamp)
+  unfolding cr.end_request cr.note_renewal cr.note_lease
+  changes_by_end_request t s stamp e = go (lease.is_renewal stamp s.lease)
     where
       ended : ClientSession
       ended = cr.ended_by stamp s
 
-      ends : (u : Turn) → u.here.session ≡ Some s → Fresh u.here.store asked → C u (cr.effect (with_session ended u) ended now reply (cs.file_asked s.cutting asked) asked)
-      ends u e fr =
-          both (one (Follows u s ended e (record { how = EndsRequest s stamp; date = date_renewed stamp s.lease; asks = λ x q. absurd (no_page x q) })))
-          (changes_by_effect (with_session ended u) ended reply (cs.file_asked s.cutting asked) asked refl refl f fr)
+      ends : (u : Turn) → u.here.session ≡ Some s → C u (with_session ended u)
+      ends u e = one (Follows u s ended e (record { how = EndsRequest s stamp; date = date_renewed stamp s.lease; asks = λ x q. absurd (no_page x q) }))
 
-      go : (b : Bool) → C t (cr.effect (with_session ended (if b then cr.note_lease (lease.renewed stamp s.lease) t else t)) ended now reply (cs.file_asked s.cutting asked) asked)
-      go true = both (one (Says t _ tt refl)) (ends (cr.note_lease (lease.renewed stamp s.lease) t) e fr)
-      go false = ends t e fr
+      go : (b : Bool) → C t (with_session ended (if b then cr.note_lease (lease.renewed stamp s.lease) t else t))
+      go true = both (one (Says t _ tt refl)) (ends (cr.note_lease (lease.renewed stamp s.lease) t) e)
+      go false = ends t e
+
+  -- it leaves the session that is so ended, and all that is known of the disks
+  pub session_ended : (t : Turn) (s : ClientSession) (stamp : Stamp) → (cr.end_request t s stamp).here.session ≡ Some (cr.ended_by stamp s)
+  unfolding cr.end_request
+  session_ended t s stamp = refl
+
+  pub same_store : (t : Turn) (s : ClientSession) (stamp : Stamp) → (cr.end_request t s stamp).here.store ≡ t.here.store
+  unfolding cr.end_request cr.note_renewal cr.note_lease
+  same_store t s stamp = go (lease.is_renewal stamp s.lease)
+    where
+      go : (b : Bool) → (with_session (cr.ended_by stamp s) (if b then cr.note_lease (lease.renewed stamp s.lease) t else t)).here.store ≡ t.here.store
+      go true = refl
+      go false = refl
+
+  changes_by_reply_to : (t : Turn) (s : ClientSession) (stamp : Stamp) (reply asked : Body) → t.here.session ≡ Some s → fits reply asked ≡ true → Fresh t.here.store asked → C t (cr.reply_to t s now stamp reply asked)
+  unfolding cr.reply_to
+  changes_by_reply_to t s stamp reply asked e f fr =
+      both (changes_by_end_request t s stamp e)
+      (changes_by_effect (cr.end_request t s stamp) (cr.ended_by stamp s) reply (cs.file_asked s.cutting asked) asked (session_ended t s stamp) refl f
+      (subst (λ st. Fresh st asked) (sym (same_store t s stamp)) fr))
+
+  -- a reply that counts
+  pub changes_by_count : (t : Turn) (s : ClientSession) (stamp : Stamp) (reply asked : Body) → t.here.session ≡ Some s → fits reply asked ≡ true → Fresh t.here.store asked → C t (cr.count_reply t s now stamp reply asked)
+  unfolding cr.count_reply
+  changes_by_count t s stamp reply asked e f fr =
+      if_changes (cr.refuses_reassertion reply asked) t _ _ (λ c. changes_by_condemn t s e) (λ c. changes_by_reply_to t s stamp reply asked e f fr)
 
   changes_by_reply : (t : Turn) (s : ClientSession) (h : Header) (reply : Body) → t.here.session ≡ Some s → AskedFresh t.here.store s.requests.asked → C t (cr.reply_of t s now h reply)
-  unfolding cr.reply_of cr.counted cr.by_request cr.count_reply
+  unfolding cr.reply_of cr.counted cr.by_request
   changes_by_reply t s h reply e fr = go s.requests.asked refl
     where
       go : (o : Option Request) → s.requests.asked ≡ o → C t (cr.counted t s now h.number (record { 0 = h.stamp }) reply o)
       go None q = Still t
       go (Some r) q =
           if_changes (cr.is_counting h.number reply r) t _ _
-          (λ b. if_changes (cr.refuses_reassertion reply r.body) t _ _ (λ c. changes_by_condemn t s e) (λ c. changes_by_reply_to t s _ reply r.body e (and_true (cs.is_request_of h.number r) (fits reply r.body) b).1 (λ x i. fr x (ap map_asked q ∙ i)))) (λ b. Still t)
+          (λ b. changes_by_count t s _ reply r.body e (and_true (cs.is_request_of h.number r) (fits reply r.body) b).1 (λ x i. fr x (ap map_asked q ∙ i))) (λ b. Still t)
 
   changes_by_nack : (t : Turn) (s : ClientSession) (h : Header) (w : Why) (a b : ℕ) → t.here.session ≡ Some s → AskedFresh t.here.store s.requests.asked → C t (cr.nack t s now h w a b)
   changes_by_nack t s h why.Suspect a b e fr = changes_by_condemn t s e

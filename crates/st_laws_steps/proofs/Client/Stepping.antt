@@ -182,7 +182,7 @@ all_then c s k now t u v p q =
     record { id = p.id ∙ q.id; config = p.config ∙ q.config; pairs = pairs_then (Goes k now) (Goes k now) (Goes k now) (goes_then k now) t.state.associations u.state.associations v.state.associations p.pairs q.pairs; out = q.out ∙ p.out }
 
 -- The end of a command.
-ends_fit : (now : Stamp) (number : ℕ) (ok : Bool) (t u : Turn) → Ends number ok t u → Next now t u
+pub ends_fit : (now : Stamp) (number : ℕ) (ok : Bool) (t u : Turn) → Ends number ok t u → Next now t u
 unfolding cl.hardened pages.harden pages.harden_at pages.harden_page pages.fail pages.failed_by
 ends_fit now number ok t _ Unknown = next_same now t
 ends_fit now number ok t _ (Passes c e o) = record { id = refl; config = refl; server = refl; life = refl; session = session_same t.config now t.here.session; fit = λ f. record { mapped = f.mapped; fresh = fresh t.here.session f.fresh }; more = []; out = nothing_after t.out; unlost = record {} }

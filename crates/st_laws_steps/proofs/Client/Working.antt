@@ -64,14 +64,14 @@ module _ (syncs : List Operation) (now : Stamp) where
   C t u = Changes syncs OnlyKeeps now t u
 
   -- operations
-  changes_by_sync : (t : Turn) (o : Operation) (f : FileId) → Has o syncs → o.ask ≡ asks.Sync f → server_of o.ask ≡ t.here.server → C t (cp.sync t o f)
+  pub changes_by_sync : (t : Turn) (o : Operation) (f : FileId) → Has o syncs → o.ask ≡ asks.Sync f → server_of o.ask ≡ t.here.server → C t (cp.sync t o f)
   unfolding cp.sync
   changes_by_sync t o f h a own =
       if_changes (pages.is_hard t.here.store f.ino) t _ _
       (λ e. changes_by_answer t o.op answers.Hard
       (record { operation = o; has = h; op_is = refl; file = f; was_asked = a; own = sym (ap server_of a) ∙ own; hard = e })) (λ e. changes_by_keeping t o)
 
-  changes_by_quiesce : (t : Turn) (o : Operation) → C t (cp.quiesce t o)
+  pub changes_by_quiesce : (t : Turn) (o : Operation) → C t (cp.quiesce t o)
   unfolding cp.quiesce
   changes_by_quiesce t o = if_changes (Rattle.st_rules.specs.ClientState.is_sent o) t _ _ (λ e. changes_by_keeping t o)
       (λ e. changes_by_answer t o.op answers.Quiesced tt)
@@ -94,7 +94,7 @@ module _ (syncs : List Operation) (now : Stamp) where
       (λ e. changes_by_change t s o f p bytes (notes.Accepted f p bytes) se sv own
       (and_true (cp.holds s modes.X f) (pages.is_mapped t.here.store.extents f.ino p) e).1 (refl, refl) q) (λ e. changes_by_keeping t o)
 
-  changes_by_fetch : (t : Turn) (o : Operation) (f : FileId) (p : PageNo) → pages.cached t.here.store.pages f.ino p ≡ None → Uncut t f.ino →
+  pub changes_by_fetch : (t : Turn) (o : Operation) (f : FileId) (p : PageNo) → pages.cached t.here.store.pages f.ino p ≡ None → Uncut t f.ino →
       C t (cp.fetch t o f p)
   unfolding cp.fetch cp.fetch_at cp.fetch_mapped
   changes_by_fetch t o f p uncached q = both (go (pages.mapping_of t.here.store.extents f.ino p) refl) (changes_by_keeping _ o)
@@ -132,7 +132,7 @@ module _ (syncs : List Operation) (now : Stamp) where
               one (Caches t (pages.with_newest t.here.store.pages.most_clean c t.here.store.pages.clean)
               (newest_there t.here.store.pages.most_clean c t.here.store.pages.clean (found_at (pages.is_clean_of ino p) t.here.store.pages.clean c e).1))
 
-  changes_by_read : (t : Turn) (s : ClientSession) (o : Operation) (f : FileId) (p : PageNo) → Uncut t f.ino → C t (cp.read t s o f p)
+  pub changes_by_read : (t : Turn) (s : ClientSession) (o : Operation) (f : FileId) (p : PageNo) → Uncut t f.ino → C t (cp.read t s o f p)
   unfolding cp.read cp.read_at cp.read_cached cp.read_uncached cp.read_known
   changes_by_read t s o f p free = if_changes (cp.holds s modes.S f) t _ _ (λ e. go (pages.cached t.here.store.pages f.ino p) refl)
       (λ e. changes_by_keeping t o)

@@ -1,0 +1,127 @@
+-- Changes of pages, reads and writes of a client of the third form are lists of changes.
+use Rattle.st_lemmas.proofs.Words
+use Words.{◌≡◌, ℕ, Bool, true, false, List, [], ◌∷◌, Option, Some, None, not, refl, ◌∙◌, if◌then◌else◌, FileId, PageNo, Ask, DirtyPage, MappedBlock, Note, Operation, Stamp}
+use Words.asks
+use Words.answers
+use Words.modes
+use Words.notes
+use Words.outputs
+use Words.FlatLog.{overlay}
+use Words.ClientPages as pages
+use Words.ClientPasses as passes
+use Words.ClientState.{ClientSession, file_of, is_serving, keep, server_of}
+use Words.Tables.{and_true, not_true}
+use Rattle.st_laws_steps.specs.Client.Client as client
+use Rattle.st_laws_steps.specs.Client.Client.{ChangesPage}
+use Rattle.st_laws_steps.proofs.Client.Passing.{Uncut}
+use Rattle.st_laws_steps.proofs.Client.Working.{changes_by_fetch, changes_by_read}
+use Rattle.st_third.specs.Limits.{is_dirty_full}
+use Rattle.st_third.specs.Room as room
+use Rattle.st_third.specs.State.{ThirdTurn, plainly, session}
+use Rattle.st_laws_third.specs.Changes.{ThirdChanges, Still, WaitsForRoom}
+use Rattle.st_laws_third.proofs.Chains.{Old, both, by_rule, either, old_both, old_one, old_pass, old_still, one}
+
+-- what a write leaves of the session
+same_session : (now : Stamp) (at : List ℕ) (s : ClientSession) (tick : Bool) (t : ThirdTurn) (d : Option DirtyPage) →
+    session (room.write_page at t s now tick d) ≡ session t
+unfolding room.write_page room.write_due plainly passes.write_out passes.write_out_at passes.submit_write passes.submit_command
+same_session now at s tick t None = refl
+same_session now at s tick t (Some d) = go (room.is_writable at t s now tick d)
+  where
+    out : (m : Option MappedBlock) → (passes.write_out_at t.plain d m).here.session ≡ session t
+    out None = refl
+    out (Some m) = refl
+
+    go : (b : Bool) → session (if b then plainly (room.written_out d) t else t) ≡ session t
+    go true = out (pages.mapping_of t.plain.here.store.extents d.ino d.page)
+    go false = refl
+
+module _ {now : Stamp} where
+  pub keeps : (t : ThirdTurn) (o : Operation) → ThirdChanges now t (plainly (keep o) t)
+  keeps t o = by_rule t (keep o) (old_one (client.Operates t.plain _) tt)
+
+  -- a page is changed, if there is room
+  module _ (t : ThirdTurn) (o : Operation) where
+    waits : ThirdChanges now t (room.waiting_for_room o t)
+    waits = both (keeps t o) (one (WaitsForRoom (plainly (keep o) t) _))
+
+    finds_none : ThirdChanges now t (room.without_room t o)
+    unfolding room.without_room
+    finds_none =
+        either (room.is_hopeless t.plain.here.store) t _ _
+        (λ e. by_rule t (passes.answer o answers.DirtyFull) (old_one (client.Says t.plain (outputs.Answer o.op answers.DirtyFull) tt) tt)) (λ e. waits)
+
+    module _ (s : ClientSession) (se : session t ≡ Some s) (sv : is_serving t.plain.config s now ≡ true) where
+      changes_page : (f : FileId) (p : PageNo) (bytes : List ℕ) (n : Note) → f.server ≡ t.plain.here.server →
+          pages.is_mapped t.plain.here.store.extents f.ino p ≡ true → ChangesPage f p n → ThirdChanges now t (room.change_page t o f p bytes n)
+      unfolding room.change_page passes.change
+      changes_page f p bytes n own m h =
+          either (is_dirty_full t.limits.dirty t.plain.here.store.pages f.ino p) t _ _ (λ e. finds_none)
+          (λ e. by_rule t (room.changed o f p bytes n)
+          (old_both (old_one (client.Writes t.plain s f p bytes n se sv own m h) tt) (old_one (client.Says _ (outputs.Answer o.op answers.Written) tt) tt)))
+
+      writes_page : (f : FileId) (p : PageNo) (bytes : List ℕ) → f.server ≡ t.plain.here.server → ThirdChanges now t (room.write t s o f p bytes)
+      unfolding room.write
+      writes_page f p bytes own =
+          either (passes.may_write t.plain s f p) t _ _
+          (λ e. changes_page f p bytes (notes.Accepted f p bytes) own (and_true (passes.holds s modes.X f) _ e).1 (refl, refl)) (λ e. keeps t o)
+
+      patches : (f : FileId) (p : PageNo) (at : ℕ) (bytes : List ℕ) → f.server ≡ t.plain.here.server → Uncut t.plain f.ino →
+          ThirdChanges now t (room.patch t s o f p at bytes)
+      unfolding room.patch room.patch_at
+      patches f p at bytes own free =
+          either (passes.may_write t.plain s f p) t _ _
+          (λ e. go (and_true (passes.holds s modes.X f) (pages.is_mapped t.plain.here.store.extents f.ino p) e).1 (pages.cached t.plain.here.store.pages f.ino p) refl)
+          (λ e. keeps t o)
+        where
+          go : pages.is_mapped t.plain.here.store.extents f.ino p ≡ true → (b : Option (List ℕ)) → pages.cached t.plain.here.store.pages f.ino p ≡ b →
+              ThirdChanges now t (room.patch_at t o f p at bytes b)
+          go m None q = by_rule t (room.fetched o f p) (old_pass (changes_by_fetch [] now t.plain o f p q free))
+          go m (Some old) q = changes_page f p (overlay at bytes old) (notes.Patched f p at bytes) own m (refl, refl)
+
+      -- an operation to which its file is open
+      pub serves : (ask : Ask) → server_of ask ≡ t.plain.here.server → ((ino : ℕ) → file_of ask ≡ Some ino → Uncut t.plain ino) →
+          ThirdChanges now t (room.serve_open t s o ask)
+      unfolding room.serve_open
+      serves (asks.Write f p bytes) own free = writes_page f p bytes own
+      serves (asks.Patch f p at bytes) own free = patches f p at bytes own (free f.ino refl)
+      serves (asks.Read f p) own free = by_rule t (room.read s o f p) (old_pass (changes_by_read [] now t.plain s o f p (free f.ino refl)))
+      serves ask own free = keeps t o
+
+  -- Writes.
+
+  module _ (at : List ℕ) (s : ClientSession) (tick : Bool) where
+    writes_due : (t : ThirdTurn) (ino : ℕ) (p : PageNo) (d : DirtyPage) → session t ≡ Some s → pages.dirty_of t.plain.here.store.pages ino p ≡ Some d →
+        ThirdChanges now t (room.write_due at t s now tick d)
+    unfolding room.write_due passes.write_out passes.write_out_at
+    writes_due t ino p d se e =
+        either (room.is_writable at t s now tick d) t _ _
+        (λ w. by_rule t (room.written_out d)
+        (go (not_true (pages.is_being_written t.plain.here.store.commands d.ino d.page) (and_true (not (pages.is_being_written t.plain.here.store.commands d.ino d.page)) _ w).0)
+        (pages.mapping_of t.plain.here.store.extents d.ino d.page) refl)) (λ w. Still t)
+      where
+        go : pages.is_being_written t.plain.here.store.commands d.ino d.page ≡ false → (m : Option MappedBlock) →
+            pages.mapping_of t.plain.here.store.extents d.ino d.page ≡ m → Old now t.plain (passes.write_out_at t.plain d m)
+        go w None i = old_still t.plain
+        go w (Some m) i = old_one (client.Submits t.plain s ino p d m se e i w) tt
+
+    writes_page_out : (t : ThirdTurn) (ino : ℕ) (p : PageNo) → session t ≡ Some s → (d : Option DirtyPage) → pages.dirty_of t.plain.here.store.pages ino p ≡ d →
+        ThirdChanges now t (room.write_page at t s now tick d)
+    unfolding room.write_page
+    writes_page_out t ino p se None e = Still t
+    writes_page_out t ino p se (Some d) e = writes_due t ino p d se e
+
+    writes_each : (xs : List (ℕ × PageNo)) (t : ThirdTurn) → session t ≡ Some s → ThirdChanges now t (room.write_each at s now tick xs t)
+    unfolding room.write_each
+    writes_each [] t se = Still t
+    writes_each (x ∷ xs) t se =
+        let d : Option DirtyPage = pages.dirty_of t.plain.here.store.pages x.0 x.1 in
+        both (writes_page_out t x.0 x.1 se d refl) (writes_each xs (room.write_page at t s now tick d) (same_session now at s tick t d ∙ se))
+
+  pub writes : (tick : Bool) (t : ThirdTurn) → ThirdChanges now t (room.writes now tick t)
+  unfolding room.writes room.writes_by
+  writes tick t = go (session t) refl
+    where
+      go : (x : Option ClientSession) → session t ≡ x → ThirdChanges now t (room.writes_by t now tick x)
+      go None e = Still t
+      go (Some s) e = writes_each (room.oldest t.room t.plain.here.store) s tick (pages.dirty_places t.plain.here.store.pages) t e

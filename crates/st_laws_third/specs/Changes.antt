@@ -1,0 +1,101 @@
+-- What the rules of a client of the third form do at one server, as a list of small changes: those of
+-- the first two forms, and a few more.
+use Rattle.std.specs.Prelude.{◌≡◌, ℕ, ◌+◌, ◌<◌, Bool, true, false, List, Some, None}
+use Rattle.st_base.specs.declared.ids.Epoch.{Epoch}
+use Rattle.st_base.specs.declared.ids.Stamp.{Stamp}
+use Rattle.st_rules.specs.declared.client.DemandedFile.{DemandedFile}
+use Rattle.st_rules.specs.declared.client.HeldLock.{HeldLock}
+use Rattle.st_rules.specs.ClientLease as lease
+use Rattle.st_rules.specs.ClientPages as pages
+use Rattle.st_rules.specs.ClientReplies as replies
+use Rattle.st_rules.specs.ClientState.{ClientSession, Turn}
+use Rattle.st_laws_steps.specs.Client.Client as client
+use Rattle.st_laws_steps.specs.Client.Client.{Change, Plain}
+use Rattle.st_laws_steps.specs.Client.Losses.{Ends, is_ended}
+use Rattle.st_lemmas.specs.Lists.{Has}
+use Rattle.st_third.specs.declared.beside.Leave.{Leave}
+use Rattle.st_third.specs.declared.output.ThirdOutput.{ThirdOutput}
+use Rattle.st_third.specs.declared.output.ThirdOutput.TheVariants as says
+use Rattle.st_third.specs.GiveBack.{demanded}
+use Rattle.st_third.specs.Leave.{emptied, noted_lost}
+use Rattle.st_third.specs.Limits.{limited_session}
+use Rattle.st_third.specs.State.{Beside, ThirdTurn, here, say, session, with_beside, with_its_session}
+use Rattle.st_third.specs.UsedOnce.{reduced}
+
+-- with this turn of the first two forms
+abbrev pub with_plain : Turn → ThirdTurn → ThirdTurn
+with_plain u t = record t { plain = u }
+
+-- with these leaves
+abbrev pub with_leaves : List Leave → ThirdTurn → ThirdTurn
+with_leaves ls t = record t { leaves = ls }
+
+-- so many changes wait for room
+abbrev pub with_room : ℕ → ThirdTurn → ThirdTurn
+with_room n t = record t { room = n }
+
+-- a word that ends no life, and changes neither the log nor the commands
+abbrev pub PlainWord : ThirdOutput → Type 0
+PlainWord (says.Plain o) = Plain o
+PlainWord (says.Ended s life end) = ⊥
+PlainWord o = Unit {0}
+
+-- a change of the first two forms that begins no session
+abbrev pub Continues : (now : Stamp) (t u : Turn) → Change now t u → Type 0
+Continues now t _ (client.Begins _ s a b c) = ⊥
+Continues now t u c = Unit {0}
+
+-- One change, by a rule at a moment.
+pub data ThirdChange (now : Stamp) : ThirdTurn → ThirdTurn → Type 0 where
+  -- one that the first two forms make too
+  Plainly : (t : ThirdTurn) (u : Turn) (c : Change now t.plain u) → Continues now t.plain u c → ThirdChange now t (with_plain u t)
+  -- a word
+  Says : (t : ThirdTurn) (o : ThirdOutput) → PlainWord o → ThirdChange now t (say t o)
+  -- other leaves are pending
+  Leaves : (t : ThirdTurn) (ls : List Leave) → ThirdChange now t (with_leaves ls t)
+  -- other uses are owed, or runs have another limit, or the server was full at another time
+  IsBeside : (t : ThirdTurn) (b : Beside) → ThirdChange now t (with_beside b t)
+  -- more or fewer changes wait for room
+  WaitsForRoom : (t : ThirdTurn) (n : ℕ) → ThirdChange now t (with_room n t)
+  -- a session begins with the limit of its locks, by a fresh welcome
+  Begins : (t : ThirdTurn) (epoch : Epoch) (stamp : Stamp) → session t ≡ None → now.0 < stamp.0 + t.plain.config.renew →
+      ThirdChange now t (with_its_session (limited_session t.limits (replies.new_session epoch stamp)) t)
+  -- a lock that is held is demanded by its own client, down to none
+  GivesBack : (t : ThirdTurn) (s : ClientSession) (l : HeldLock) → session t ≡ Some s → Has l s.locks.rows →
+      ThirdChange now t (with_its_session (demanded l.ino s) t)
+  -- an idle file is reduced to a demand
+  Reduces : (t : ThirdTurn) (s : ClientSession) (d : DemandedFile) (ino : ℕ) → session t ≡ Some s → d.ino ≡ ino →
+      pages.is_idle t.plain.here.store ino ≡ true → ThirdChange now t (with_plain (reduced s (Some d) ino t.plain) t)
+
+-- Changes, one after another.
+pub data ThirdChanges (now : Stamp) : ThirdTurn → ThirdTurn → Type 0 where
+  Still : (t : ThirdTurn) → ThirdChanges now t t
+  Then : (t u v : ThirdTurn) → ThirdChange now t u → ThirdChanges now u v → ThirdChanges now t v
+
+-- Losing: a lease that has ended is lost, with a note, and nothing is left of the association but its
+-- lost rows.
+pub data ThirdLoses (now : Stamp) (t : ThirdTurn) : ThirdTurn → Type 0 where
+  Lasts : is_ended t.plain.config now (session t) ≡ false → ThirdLoses now t t
+  IsLost : (s : ClientSession) (v : ThirdTurn) → session t ≡ Some s → is_ended t.plain.config now (session t) ≡ true →
+      ThirdChanges now (with_plain (noted_lost t.plain) t) v → ThirdLoses now t (emptied v)
+
+-- Ending: the end of the command of a number, done or failed, changes the pages of the association; and
+-- changes follow.
+pub record ThirdFinishes (now : Stamp) (number : ℕ) (ok : Bool) (t u : ThirdTurn) : Type 0 where
+  pub middle : Turn
+  pub ends : Ends number ok t.plain middle
+  pub rest : ThirdChanges now (with_plain middle t) u
+
+-- Leaving: a life ends that has nothing left at its server, with the lease end that it has then.
+pub data ThirdLeaves (now : Stamp) (t : ThirdTurn) : ThirdTurn → Type 0 where
+  Stays : ThirdLeaves now t t
+  HasLeft : (s : ClientSession) → session t ≡ Some s →
+      ThirdLeaves now t (emptied (say t (says.Ended (here t) t.plain.here.life (lease.end_of t.plain.config s.lease))))
+
+-- All passes: what comes before leaving, leaving, and what comes after it.
+pub record ThirdPasses (now : Stamp) (t u : ThirdTurn) : Type 0 where
+  pub written : ThirdTurn
+  pub left : ThirdTurn
+  pub works : ThirdChanges now t written
+  pub leaves : ThirdLeaves now written left
+  pub asks : ThirdChanges now left u
