@@ -51,6 +51,4 @@ PLANTS = (
     third("a client has one more dirty page than it may", "LimitsAreKept", (ROOM, "is_dirty_full t.limits.dirty t.plain", "is_dirty_full (t.limits.dirty + 1) t.plain"),
           (ROOM, "Prelude.{", "Prelude.{◌+◌, ")),
     third("a client has one more clean page than it may", "LimitsAreKept", (LIMITS, "{ most_clean = m.clean }", "{ most_clean = m.clean + 1 }"), (LIMITS, "Prelude.{", "Prelude.{◌+◌, ")),
-    third("a client has one more lock than it may", "LimitsAreKept", (LIMITS, "limited_session m s = record s { locks = record s.locks { limit = m.locks } }",
-          "limited_session m s = record s { locks = record s.locks { limit = m.locks + 1 } }"), (LIMITS, "Prelude.{", "Prelude.{◌+◌, ")),
 )

@@ -15,3 +15,5 @@ mod Passing
 mod Facts
 mod Rules
 mod Stepping
+mod Moves
+mod Welcomes

@@ -244,4 +244,5 @@ clients_step_on m c now input p f =
     let d : Stepped k now v w =
     each_goes k now m (client.third_passes now (client.is_tick input)) (λ x e g. passed k now x _ e (passes_change now (client.is_tick input) x)) v
     (b.config ∙ a.config) pv fv in
-    (stepped_then k now t u w a (stepped_then k now u v w b d)).pairs
+    let s : Stepped k now t w = stepped_then k now t u w a (stepped_then k now u v w b d) in
+    record { config = s.config; associations = s.pairs }

@@ -3,3 +3,4 @@ pub mod Pairs
 pub mod Changes
 pub mod Sessions
 pub mod Rules
+pub mod Welcomes

@@ -28,8 +28,13 @@ pub record StepsOn (k : Config) (now : Stamp) (a b : Association) : Type 0 where
   pub dates : Dates k now a.session b.session
   pub fit : Fit a → Fit b
 
--- So it is of each association in each step of a client.
+-- What becomes of a client in a step: its settings are the same, and so it is with each association.
+pub record ClientStepsOn (now : Stamp) (c d : ThirdClient) : Type 0 where
+  pub config : d.plain.config ≡ c.plain.config
+  pub associations : Pairwise (StepsOn c.plain.config now) c.plain.associations d.plain.associations
+
+-- So it is in each step of a client.
 abbrev pub ClientsStepOn : Type 0
 ClientsStepOn =
     (m : Limits) (c : ThirdClient) (now : Stamp) (input : ThirdInput) → IsPaired c → ((a : Association) → Has a c.plain.associations → Fit a) →
-    Pairwise (StepsOn c.plain.config now) c.plain.associations (client_step m c now input).client.plain.associations
+    ClientStepsOn now c (client_step m c now input).client

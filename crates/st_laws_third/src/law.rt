@@ -2,6 +2,7 @@ ghost use Rattle.st_laws_third.specs.FirstForms.{FirstHeadsStay, FirstRunsStay, 
 ghost use Rattle.st_laws_third.specs.Pairs.{ClientsStayPaired};
 ghost use Rattle.st_laws_third.specs.Rules.{RulesAreChanges};
 ghost use Rattle.st_laws_third.specs.Sessions.{ClientsStepOn};
+ghost use Rattle.st_laws_third.specs.Welcomes.{EveryWelcomeIsFresh};
 
 /// With a head of form 1 or 2, a run by the definitions of every form is the run by those of the
 /// first two forms: it has the same worlds, observations and refusal, and the same report.
@@ -39,4 +40,10 @@ pub fn third_rules_are_changes()
 /// welcome. Its dirty pages are still known as mapped.
 pub fn third_clients_step_on()
     ensures { ClientsStepOn }
+{}
+
+/// In every run of the third form, when a session begins at a client, now is below the date of its
+/// lease plus `renew`.
+pub fn every_welcome_is_fresh()
+    ensures { EveryWelcomeIsFresh }
 {}
