@@ -17,3 +17,4 @@ mod Rules
 mod Stepping
 mod Moves
 mod Welcomes
+mod Demands

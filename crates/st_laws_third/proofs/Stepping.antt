@@ -31,7 +31,7 @@ use Rattle.st_laws_third.proofs.Passing.{passes_change}
 use Rattle.st_laws_third.proofs.Receiving.{receives}
 
 module _ (k : Config) (now : Stamp) where
-  abbrev R : Association → Association → Type 0
+  abbrev pub R : Association → Association → Type 0
   R a b = StepsOn k now a b
 
   steps_same : (a : Association) → R a a
@@ -62,7 +62,7 @@ module _ (k : Config) (now : Stamp) where
 
   -- One rule at one server.
   module _ (t : ThirdTurn) (c : t.plain.config ≡ k) where
-    changed : (u : ThirdTurn) → ThirdChanges now t u → R t.plain.here u.plain.here
+    pub changed : (u : ThirdTurn) → ThirdChanges now t u → R t.plain.here u.plain.here
     changed u cs =
         let n = changes_third now t u cs in
         let z : t.plain.here.life.0 ≡ u.plain.here.life.0 = ap (λ x. x.0) n.life in
@@ -72,7 +72,7 @@ module _ (k : Config) (now : Stamp) where
     config_stays : (u : ThirdTurn) → ThirdChanges now t u → u.plain.config ≡ k
     config_stays u cs = let n = changes_third now t u cs in sym n.config ∙ c
 
-    loses_it : (u : ThirdTurn) → ThirdLoses now t u → R t.plain.here u.plain.here
+    pub loses_it : (u : ThirdTurn) → ThirdLoses now t u → R t.plain.here u.plain.here
     unfolding plainly
     loses_it _ (Lasts e) = steps_same t.plain.here
     loses_it _ (IsLost s v e i cs) =
@@ -130,9 +130,9 @@ module _ (k : Config) (now : Stamp) where
     pairs : Pairwise R as_ left
 
   -- a step so far
-  record Stepped (t u : ThirdClientTurn) : Type 0 where
-    config : u.client.plain.config ≡ t.client.plain.config
-    pairs : Pairwise R t.client.plain.associations u.client.plain.associations
+  pub record Stepped (t u : ThirdClientTurn) : Type 0 where
+    pub config : u.client.plain.config ≡ t.client.plain.config
+    pub pairs : Pairwise R t.client.plain.associations u.client.plain.associations
 
   stepped_same : (t u : ThirdClientTurn) → u.client ≡ t.client → Stepped t u
   stepped_same t u e =
@@ -148,13 +148,13 @@ module _ (k : Config) (now : Stamp) where
         pairs = pairs_then R R R steps_then t.client.plain.associations u.client.plain.associations v.client.plain.associations a.pairs b.pairs;
       }
 
-  abbrev AllFit : ThirdClientTurn → Type 0
+  abbrev pub AllFit : ThirdClientTurn → Type 0
   AllFit t = (a : Association) → Has a t.client.plain.associations → Fit a
 
-  stepped_fit : (t u : ThirdClientTurn) → Stepped t u → AllFit t → AllFit u
+  pub stepped_fit : (t u : ThirdClientTurn) → Stepped t u → AllFit t → AllFit u
   stepped_fit t u s f = pairs_has R Fit Fit (λ a b r. r.fit) t.client.plain.associations u.client.plain.associations s.pairs f
 
-  abbrev Rule : (ThirdTurn → ThirdTurn) → Type 0
+  abbrev pub Rule : (ThirdTurn → ThirdTurn) → Type 0
   Rule rule = (t : ThirdTurn) → t.plain.config ≡ k → Fit t.plain.here → R t.plain.here (rule t).plain.here
 
   module _ (m : Limits) (rule : ThirdTurn → ThirdTurn) (one : Rule rule) where
@@ -176,7 +176,7 @@ module _ (k : Config) (now : Stamp) where
           pairs = record { one = one (enter m t a b) c (f a (inl refl)); rest = w.pairs };
         }
 
-    each_goes : (t : ThirdClientTurn) → t.client.plain.config ≡ k → IsPaired t.client → ((a : Association) → Has a t.client.plain.associations → Fit a) →
+    pub each_goes : (t : ThirdClientTurn) → t.client.plain.config ≡ k → IsPaired t.client → ((a : Association) → Has a t.client.plain.associations → Fit a) →
         Stepped t (at_each m rule t)
     unfolding at_each
     each_goes t c e f =

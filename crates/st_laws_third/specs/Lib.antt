@@ -4,3 +4,4 @@ pub mod Changes
 pub mod Sessions
 pub mod Rules
 pub mod Welcomes
+pub mod Demands

@@ -1,3 +1,4 @@
+ghost use Rattle.st_laws_third.specs.Demands.{EveryDemandIsAnswered};
 ghost use Rattle.st_laws_third.specs.FirstForms.{FirstHeadsStay, FirstRunsStay, FirstStepsStay};
 ghost use Rattle.st_laws_third.specs.Pairs.{ClientsStayPaired};
 ghost use Rattle.st_laws_third.specs.Rules.{RulesAreChanges};
@@ -46,4 +47,10 @@ pub fn third_clients_step_on()
 /// lease plus `renew`.
 pub fn every_welcome_is_fresh()
     ensures { EveryWelcomeIsFresh }
+{}
+
+/// A demand that reaches a session of its epoch is answered in the same step, unless the client has
+/// the file's lock under a later grant: also if the lock was given up, and its release waits.
+pub fn every_demand_is_answered()
+    ensures { EveryDemandIsAnswered }
 {}
