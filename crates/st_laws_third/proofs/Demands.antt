@@ -1,6 +1,6 @@
 -- A demand that reaches a session of its epoch is answered in the same step.
 use Rattle.st_lemmas.proofs.Words
-use Words.{◌≡◌, ℕ, suc, ◌+◌, ◌≤◌, ◌==◌, Bool, true, false, List, [], ◌∷◌, ◌++◌, Option, Some, None, length, map, refl, sym, ap, ◌∙◌, subst, inl, inr, arith, if◌then◌else◌, eq-eqb, le-leb, nat_le}
+use Words.{◌≡◌, ℕ, suc, ◌≤◌, ◌==◌, Bool, true, false, List, [], ◌∷◌, ◌++◌, Option, Some, None, length, map, refl, sym, ap, ◌∙◌, subst, inl, inr, arith, if◌then◌else◌, eq-eqb, le-leb, nat_le}
 use Words.{Body, ClientId, Config, GrantNo, Header, HeldLock, Mode, Output, Stamp}
 use Words.bodies
 use Words.modes
@@ -29,12 +29,12 @@ use Rattle.st_laws_third.proofs.Passing.{passes_change}
 use Rattle.st_laws_third.proofs.Receiving.{receives}
 use Rattle.st_laws_third.proofs.Stepping.{Stepped, changed, each_goes, loses_it, stepped_fit}
 
-left_has : {A : Type 0} (xs ys : List A) (x : A) → Has x xs → Has x (xs ++ ys)
+pub left_has : {A : Type 0} (xs ys : List A) (x : A) → Has x xs → Has x (xs ++ ys)
 left_has [] ys x h = absurd h
 left_has (z ∷ xs) ys x (inl e) = inl e
 left_has (z ∷ xs) ys x (inr h) = inr (left_has xs ys x h)
 
-right_has : {A : Type 0} (xs ys : List A) (x : A) → Has x ys → Has x (xs ++ ys)
+pub right_has : {A : Type 0} (xs ys : List A) (x : A) → Has x ys → Has x (xs ++ ys)
 right_has [] ys x h = h
 right_has (z ∷ xs) ys x h = inr (right_has xs ys x h)
 
@@ -226,7 +226,8 @@ every_demand_is_answered m c now h ino g to a s p f r late =
     ended_not : (y : ThirdTurn) → y.plain.config ≡ c.plain.config → y.plain.here ≡ a → is_ended y.plain.config now (session y) ≡ false
     ended_not y d e = (λ j. is_ended (d j) now (e j).session) ∙ r.lasts
 
-    says_it : (y : ThirdTurn) → y.plain.id ≡ c.plain.id → y.plain.here ≡ a → Has (demand_seen c.plain a s ino g) (all_said (third.receive_at now h (bodies.Demand ino g to) y))
+    says_it : (y : ThirdTurn) → y.plain.id ≡ c.plain.id → y.plain.here ≡ a →
+        Has (demand_seen c.plain a s ino g) (all_said (third.receive_at now h (bodies.Demand ino g to) y))
     says_it y i e =
         subst (λ z. Has z (all_said (third.receive_at now h (bodies.Demand ino g to) y)))
         (λ j. says.Plain (outputs.Send (record {

@@ -1,7 +1,7 @@
 -- What a list of changes of the third form leaves: the server and the life, what fits, what was said so
 -- far, and a session whose lease isn't older than before or was dated by a fresh welcome.
 use Rattle.st_lemmas.proofs.Words
-use Words.{◌≡◌, ℕ, ◌+◌, true, List, [], ◌∷◌, ◌++◌, Option, Some, None, map, refl, sym, ap, ◌∙◌, subst, inl, inr, arith, append_assoc, map-append}
+use Words.{◌≡◌, ℕ, true, List, [], ◌∷◌, ◌++◌, Option, Some, None, map, refl, sym, ap, ◌∙◌, subst, inl, inr, arith, append_assoc, map-append}
 use Words.{Config, DemandedFile, GrantNo, HeldLock, Mode, Output, PageNo, Stamp}
 use Words.modes
 use Words.Keys.{page_no}
@@ -93,7 +93,8 @@ plain_said t u more e =
     ∙ ap (λ os. t.said ++ os) (map-append plain_output t.plain.out more)
     ∙ sym (append_assoc t.said (map plain_output t.plain.out) (map plain_output more))
 
-plain_next : (now : Stamp) (t : ThirdTurn) (u : Turn) → Dates t.plain.config now (session t) u.here.session → Next now t.plain u → ThirdNext now t (with_plain u t)
+plain_next : (now : Stamp) (t : ThirdTurn) (u : Turn) → Dates t.plain.config now (session t) u.here.session → Next now t.plain u →
+    ThirdNext now t (with_plain u t)
 plain_next now t u d n =
     record { config = n.config; limits = refl; server = n.server; life = n.life; dates = d; fit = n.fit; more = map plain_output n.more; said = plain_said t u n.more n.out }
 

@@ -16,5 +16,7 @@ mod Facts
 mod Rules
 mod Stepping
 mod Moves
+mod Sound
 mod Welcomes
 mod Demands
+mod DemandRuns

@@ -1,6 +1,6 @@
 -- What an event does to the clients of a world of the third form: it leaves them, or one of them changes.
 use Rattle.st_lemmas.proofs.Words
-use Words.{◌≡◌, ◌≢◌, ◌≤◌, ℕ, zero, suc, ◌+◌, Bool, true, false, List, [], ◌∷◌, Option, Some, None, Result, Ok, Err, refl, sym, ap, ◌∙◌, subst, set, slice_get, unwrap_or, if◌then◌else◌}
+use Words.{◌≡◌, ◌≢◌, ◌≤◌, ℕ, ◌+◌, Bool, true, false, List, [], ◌∷◌, Option, Some, None, Result, Ok, Err, refl, sym, ap, ◌∙◌, subst, unwrap_or, if◌then◌else◌}
 use Words.{ClientId, Config, IssuedCommand, NodeId, Note, Output, Phase, SentMessage, ServerId, ServerInput, Stamp, StepRefusal}
 use Words.events
 use Words.nodes
@@ -15,7 +15,6 @@ use Words.Events.{WorldTurn, quiet}
 use Words.Server as server
 use Words.Server.{ServerNode}
 use Words.World.{World, WorldClient, all_servers, clock_of, issued_of, message_of, node_of, numbered, site_of, stamp, with_numbered}
-use Words.Lookups.{some_is}
 use Words.Numbers.{numbered_below, numbered_other, numbered_own}
 use Rattle.st_third.specs.declared.event.ThirdEvent.{ThirdEvent}
 use Rattle.st_third.specs.declared.event.ThirdEvent.TheVariants as third
@@ -72,7 +71,8 @@ says_keep sc c before (outputs.Submit number at what) = go (site_of sc.world c)
 says_keep sc c before (outputs.Answer op answer) = refl
 says_keep sc c before (outputs.Note n) = notes_keep sc c before n
 
-third_says : (sc : ThirdWorldTurn) (c : ClientId) (before : ClientState) (o : ThirdOutput) → third_core (every.client_says sc c before o).third ≡ third_core sc.third
+third_says : (sc : ThirdWorldTurn) (c : ClientId) (before : ClientState) (o : ThirdOutput) →
+    third_core (every.client_says sc c before o).third ≡ third_core sc.third
 unfolding every.client_says
 third_says sc c before (says.Plain o) =
     let h = says_keep (quiet sc.third.world) c before o in
@@ -81,7 +81,8 @@ third_says sc c before (says.Left op) = refl
 third_says sc c before (says.Unsynced op ino) = refl
 third_says sc c before (says.Ended s life end) = refl
 
-says_all : (c : ClientId) (before : ClientState) (os : List ThirdOutput) (sc : ThirdWorldTurn) → third_core (every.client_says_all c before os sc).third ≡ third_core sc.third
+says_all : (c : ClientId) (before : ClientState) (os : List ThirdOutput) (sc : ThirdWorldTurn) →
+    third_core (every.client_says_all c before os sc).third ≡ third_core sc.third
 unfolding every.client_says_all
 says_all c before [] sc = refl
 says_all c before (o ∷ os) sc = says_all c before os (every.client_says sc c before o) ∙ third_says sc c before o
@@ -102,7 +103,8 @@ flushes_keep c state (s ∷ ss) w =
     flushes_keep c state ss (ev.flushed_at w c s state)
     ∙ flushed_keeps w c s (plain.lease_end_with state s) (plain.phase_with state s (clock_of w (nodes.Client c)))
 
-took_core : (w : ThirdWorld) (c : ClientId) (site : WorldClient) (t : ThirdClientTurn) → third_core (every.client_took w c site t).third ≡ third_core (every.with_client c site t.client w)
+took_core : (w : ThirdWorld) (c : ClientId) (site : WorldClient) (t : ThirdClientTurn) →
+    third_core (every.client_took w c site t).third ≡ third_core (every.with_client c site t.client w)
 unfolding every.client_took
 took_core w c site t =
     let sc : ThirdWorldTurn = every.client_says_all c site.node.state t.out (unseen (every.with_client c site t.client w)) in
@@ -110,7 +112,8 @@ took_core w c site t =
     (λ i. record { plain = h i; besides = sc.third.besides }) ∙ says_all c site.node.state t.out (unseen (every.with_client c site t.client w))
 
 -- the limits of the world stay
-says_limits : (c : ClientId) (before : ClientState) (os : List ThirdOutput) (sc : ThirdWorldTurn) → (every.client_says_all c before os sc).third.limits ≡ sc.third.limits
+says_limits : (c : ClientId) (before : ClientState) (os : List ThirdOutput) (sc : ThirdWorldTurn) →
+    (every.client_says_all c before os sc).third.limits ≡ sc.third.limits
 unfolding every.client_says_all every.client_says
 says_limits c before [] sc = refl
 says_limits c before (o ∷ os) sc = says_limits c before os (every.client_says sc c before o) ∙ one o
@@ -149,7 +152,8 @@ unfolding ev.server_says_all
 server_says_all s [] sc = refl
 server_says_all s (o ∷ os) sc = server_says_all s os (ev.server_says sc s o) ∙ server_says_keep sc s o
 
-took_server : (w : ThirdWorld) (s : ServerId) (r : Result server.NodeTurn StepRefusal) → third_core (every.as_plain w (ev.server_took w.world s r)).third ≡ third_core w
+took_server : (w : ThirdWorld) (s : ServerId) (r : Result server.NodeTurn StepRefusal) →
+    third_core (every.as_plain w (ev.server_took w.world s r)).third ≡ third_core w
 unfolding ev.server_took
 took_server w s (Ok t) =
     let h = server_says_all s t.out (quiet (ev.with_node s t.node w.world)) in
@@ -161,8 +165,10 @@ pub data Becomes (w v : ThirdWorld) (c : ClientId) (old new : WorldClient) (d : 
   Stepped : (b : ClientBeside) (input : ThirdInput) → beside_of w c ≡ Some b → v.world.clocks ≡ w.world.clocks →
       new.node.state ≡ (client_step w.limits (record { plain = old.node.state; beside = b }) (clock_of w.world (nodes.Client c)) input).client.plain →
       d ≡ (client_step w.limits (record { plain = old.node.state; beside = b }) (clock_of w.world (nodes.Client c)) input).client.beside → Becomes w v c old new d
-  Crashed : new.node.state ≡ limited_client w.limits (plain.crash old.node.state) → d ≡ fresh_beside_client (plain.crash old.node.state) → Becomes w v c old new d
-  Started : new.node.state ≡ limited_client w.limits (plain.start old.node.state) → d ≡ fresh_beside_client (plain.start old.node.state) → Becomes w v c old new d
+  Crashed : new.node.state ≡ limited_client w.limits (plain.crash old.node.state) → d ≡ fresh_beside_client (plain.crash old.node.state) →
+      Becomes w v c old new d
+  Started : new.node.state ≡ limited_client w.limits (plain.start old.node.state) → d ≡ fresh_beside_client (plain.start old.node.state) →
+      Becomes w v c old new d
 
 -- The settings, the form and the limits stay.
 pub record Stays (w v : ThirdWorld) : Type 0 where
@@ -175,7 +181,7 @@ pub data Moved (w v : ThirdWorld) : Type 0 where
   Rests : v.world.clients ≡ w.world.clients → Stays w v → v.besides ≡ w.besides → Moved w v
   Changes : (c : ClientId) (old new : WorldClient) (d : ClientBeside) → site_of w.world c ≡ Some old → Stays w v →
       numbered v.world.clients c.0 ≡ Some new → ((n : ℕ) → n ≢ c.0 → numbered v.world.clients n ≡ numbered w.world.clients n) →
-      ((b : ClientBeside) → numbered v.besides c.0 ≡ Some b → b ≡ d) → ((n : ℕ) → n ≢ c.0 → numbered v.besides n ≡ numbered w.besides n) →
+      ((b : ClientBeside) → numbered w.besides c.0 ≡ Some b → numbered v.besides c.0 ≡ Some d) → ((n : ℕ) → n ≢ c.0 → numbered v.besides n ≡ numbered w.besides n) →
       Becomes w v c old new d → Moved w v
 
 stays : (w v : ThirdWorld) → v.limits ≡ w.limits → third_core v ≡ third_core w → Stays w v
@@ -183,20 +189,6 @@ stays w v l h = record { config = ap (λ x. x.plain.config) h; form = ap (λ x. 
 
 rests : (w v : ThirdWorld) → v.limits ≡ w.limits → third_core v ≡ third_core w → Moved w v
 rests w v l h = Rests (ap (λ x. x.plain.clients) h) (stays w v l h) (ap (λ x. x.besides) h)
-
--- what is set is what is found there
-set_is : {A : Type 0} (xs : List A) (n : ℕ) (x y : A) → slice_get (set xs n x) n ≡ Some y → y ≡ x
-set_is [] n x y e = cc e
-set_is (z ∷ xs) zero x y e = sym (some_is e)
-set_is (z ∷ xs) (suc n) x y e = set_is xs n x y e
-
--- with another one under a number
-beside_own : (xs : List ClientBeside) (n : ℕ) (d : ClientBeside) → (b : ClientBeside) → numbered (with_numbered n d xs) n ≡ Some b → b ≡ d
-beside_own xs zero d b e = absurd (none e)
-  where
-    none : ◌≡◌ {A = Option ClientBeside} None (Some b) → ⊥
-    none e = cc
-beside_own xs (suc n) d b e = set_is xs n d b e
 
 module _ (w : ThirdWorld) (c : ClientId) (old : WorldClient) (there : site_of w.world c ≡ Some old) where
   low : 1 ≤ c.0
@@ -207,11 +199,12 @@ module _ (w : ThirdWorld) (c : ClientId) (old : WorldClient) (there : site_of w.
   changes v new d k p q b =
       Changes c old new d there k (ap (λ xs. numbered xs c.0) p ∙ numbered_own w.world.clients c.0 new old there)
       (λ n h. ap (λ xs. numbered xs n) p ∙ numbered_other w.world.clients c.0 n new low h)
-      (λ x e. beside_own w.besides c.0 d x (sym (ap (λ xs. numbered xs c.0) q) ∙ e))
+      (λ x e. ap (λ xs. numbered xs c.0) q ∙ numbered_own w.besides c.0 d x e)
       (λ n h. ap (λ xs. numbered xs n) q ∙ numbered_other w.besides c.0 n d low h) b
 
   -- a client takes an input
-  takes_it : (site : WorldClient) → site.node ≡ old.node → (input : ThirdInput) → is_third w.world.form ≡ true → Moved w (every.client_takes w c input site).third
+  takes_it : (site : WorldClient) → site.node ≡ old.node → (input : ThirdInput) → is_third w.world.form ≡ true →
+      Moved w (every.client_takes w c input site).third
   unfolding every.client_takes every.running_takes every.third_takes
   takes_it site e input f = running site.node.running
     where
@@ -292,14 +285,15 @@ module _ (w : ThirdWorld) (c : ClientId) (old mid new : WorldClient) (d : Client
       Changes c old new d there k
       (ap (λ xs. numbered xs c.0) p ∙ numbered_own (with_numbered c.0 mid w.world.clients) c.0 new mid (numbered_own w.world.clients c.0 mid old there))
       (λ n h. ap (λ xs. numbered xs n) p ∙ numbered_other (with_numbered c.0 mid w.world.clients) c.0 n new l h ∙ numbered_other w.world.clients c.0 n mid l h)
-      (λ x e. beside_own w.besides c.0 d x (sym (ap (λ xs. numbered xs c.0) q) ∙ e))
+      (λ x e. ap (λ xs. numbered xs c.0) q ∙ numbered_own w.besides c.0 d x e)
       (λ n h. ap (λ xs. numbered xs n) q ∙ numbered_other w.besides c.0 n d l h) b
 
 crashes_move : (w : ThirdWorld) (n : NodeId) → is_third w.world.form ≡ true → Moved w (every.plain_happens w (events.Crash n)).third
 unfolding every.plain_happens every.begins every.node_begins every.client_begins every.server_begins ev.happens ev.crashes ev.crashes_client ev.crashes_server ev.marks plain.crash
 crashes_move w n f = by_form (is_third w.world.form) f n
   where
-    client : (c : ClientId) (site : Option WorldClient) → site_of w.world c ≡ site → Moved w (every.node_begins (nodes.Client c) (every.as_plain w (ev.crashes_client w.world c site))).third
+    client : (c : ClientId) (site : Option WorldClient) → site_of w.world c ≡ site →
+        Moved w (every.node_begins (nodes.Client c) (every.as_plain w (ev.crashes_client w.world c site))).third
     client c None e =
         subst (λ o. Moved w (every.client_begins (every.as_plain w (quiet w.world)) c o).third) (sym e) (rests w w refl refl)
     client c (Some site) e =
@@ -309,7 +303,8 @@ crashes_move w n f = by_form (is_third w.world.form) f n
         subst (λ o. Moved w (every.client_begins sc c o).third) (sym own)
         (twice w c site mid (limited_site w.limits mid) (fresh_beside_client mid.node.state) e _ (record { config = refl; form = refl; limits = refl }) refl refl (Crashed refl refl))
 
-    server_of : (s : ServerId) (node : Option ServerNode) → node_of w.world s ≡ node → Moved w (every.node_begins (nodes.Server s) (every.as_plain w (quiet (ev.crashes_server w.world s node)))).third
+    server_of : (s : ServerId) (node : Option ServerNode) → node_of w.world s ≡ node →
+        Moved w (every.node_begins (nodes.Server s) (every.as_plain w (quiet (ev.crashes_server w.world s node)))).third
     server_of s None e = subst (λ o. Moved w (every.server_begins (every.as_plain w (quiet w.world)) s o).third) (sym e) (rests w w refl refl)
     server_of s (Some node) e = again (node_of (every.as_plain w (quiet (ev.crashes_server w.world s (Some node)))).third.world s)
       where
@@ -330,7 +325,8 @@ starts_move : (w : ThirdWorld) (n : NodeId) → is_third w.world.form ≡ true �
 unfolding every.plain_happens every.begins every.node_begins every.client_begins every.server_begins ev.happens ev.starts ev.starts_client ev.starts_server plain.start
 starts_move w n f = by_form (is_third w.world.form) f n
   where
-    client : (c : ClientId) (site : Option WorldClient) → site_of w.world c ≡ site → Moved w (every.node_begins (nodes.Client c) (every.as_plain w (quiet (ev.starts_client w.world c site)))).third
+    client : (c : ClientId) (site : Option WorldClient) → site_of w.world c ≡ site →
+        Moved w (every.node_begins (nodes.Client c) (every.as_plain w (quiet (ev.starts_client w.world c site)))).third
     client c None e =
         subst (λ o. Moved w (every.client_begins (every.as_plain w (quiet w.world)) c o).third) (sym e) (rests w w refl refl)
     client c (Some site) e =
@@ -340,7 +336,8 @@ starts_move w n f = by_form (is_third w.world.form) f n
         subst (λ o. Moved w (every.client_begins sc c o).third) (sym own)
         (twice w c site mid (limited_site w.limits mid) (fresh_beside_client mid.node.state) e _ (record { config = refl; form = refl; limits = refl }) refl refl (Started refl refl))
 
-    server_of : (s : ServerId) (node : Option ServerNode) → node_of w.world s ≡ node → Moved w (every.node_begins (nodes.Server s) (every.as_plain w (quiet (ev.starts_server w.world s node)))).third
+    server_of : (s : ServerId) (node : Option ServerNode) → node_of w.world s ≡ node →
+        Moved w (every.node_begins (nodes.Server s) (every.as_plain w (quiet (ev.starts_server w.world s node)))).third
     server_of s None e = subst (λ o. Moved w (every.server_begins (every.as_plain w (quiet w.world)) s o).third) (sym e) (rests w w refl refl)
     server_of s (Some node) e = again (node_of (every.as_plain w (quiet (ev.starts_server w.world s (Some node)))).third.world s)
       where
@@ -365,7 +362,7 @@ elsewhere w u v h l (Rests a k d) =
 elsewhere w u v h l (Changes c old new d there k own others x y b) =
     Changes c old new d (sym (ap (λ x. numbered x.plain.clients c.0) h) ∙ there)
     (record { config = k.config ∙ ap (λ x. x.plain.config) h; form = k.form ∙ ap (λ x. x.plain.form) h; limits = k.limits ∙ l })
-    own (λ n q. others n q ∙ ap (λ x. numbered x.plain.clients n) h) x (λ n q. y n q ∙ ap (λ x. numbered x.besides n) h) (go b)
+    own (λ n q. others n q ∙ ap (λ x. numbered x.plain.clients n) h) (λ z e. x z (ap (λ y. numbered y.besides c.0) h ∙ e)) (λ n q. y n q ∙ ap (λ x. numbered x.besides n) h) (go b)
   where
     clock_same : clock_of u.world (nodes.Client c) ≡ clock_of w.world (nodes.Client c)
     clock_same = ap (λ x. unwrap_or (numbered x.plain.clocks c.0) (stamp 0)) h

@@ -1,6 +1,6 @@
 -- What becomes of each association in a step of a client of the third form.
 use Rattle.st_lemmas.proofs.Words
-use Words.{◌≡◌, ℕ, suc, ◌+◌, ◌==◌, Bool, true, false, List, [], ◌∷◌, ◌++◌, Option, Some, None, length, refl, sym, ap, ◌∙◌, subst, inl, inr, arith, append_assoc}
+use Words.{◌≡◌, ℕ, suc, ◌==◌, Bool, true, false, List, [], ◌∷◌, ◌++◌, Option, Some, None, length, refl, sym, ap, ◌∙◌, subst, inl, inr, arith, append_assoc}
 use Words.{if◌then◌else◌, Body, ClientInput, Config, DirtyPage, Header, ServerId, Stamp}
 use Words.answers
 use Words.Client as plain

@@ -5,3 +5,4 @@ pub mod Sessions
 pub mod Rules
 pub mod Welcomes
 pub mod Demands
+pub mod Invariants

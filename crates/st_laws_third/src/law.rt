@@ -1,5 +1,6 @@
-ghost use Rattle.st_laws_third.specs.Demands.{EveryDemandIsAnswered};
+ghost use Rattle.st_laws_third.specs.Demands.{EveryDemandIsAnswered, EveryRunAnswersDemands};
 ghost use Rattle.st_laws_third.specs.FirstForms.{FirstHeadsStay, FirstRunsStay, FirstStepsStay};
+ghost use Rattle.st_laws_third.specs.Invariants.{EveryClientFits};
 ghost use Rattle.st_laws_third.specs.Pairs.{ClientsStayPaired};
 ghost use Rattle.st_laws_third.specs.Rules.{RulesAreChanges};
 ghost use Rattle.st_laws_third.specs.Sessions.{ClientsStepOn};
@@ -53,4 +54,17 @@ pub fn every_welcome_is_fresh()
 /// the file's lock under a later grant: also if the lock was given up, and its release waits.
 pub fn every_demand_is_answered()
     ensures { EveryDemandIsAnswered }
+{}
+
+/// After each event of every run of the third form, each client has the settings of the world, and
+/// something beside each of its associations. Its dirty pages are known as mapped, and nothing is
+/// known of the page whose place it asks for.
+pub fn every_client_fits()
+    ensures { EveryClientFits }
+{}
+
+/// In every run of the third form, a demand that is delivered, reaches a session of its epoch and
+/// isn't older than the client's lock of the file, is answered as seen in the same step.
+pub fn every_run_answers_demands()
+    ensures { EveryRunAnswersDemands }
 {}
