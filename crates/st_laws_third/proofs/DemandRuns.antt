@@ -31,7 +31,8 @@ use Rattle.st_third.specs.Steps.{ThirdStep, ThirdTraced}
 use Rattle.st_third.specs.World as worlds
 use Rattle.st_third.specs.World.{ThirdWorld, beside_of, receiver_of, third_world}
 use Rattle.st_laws_third.specs.Demands.{DemandsAreAnswered, EveryRunAnswersDemands, IsInTime, Reaches, demand_answer, demand_seen}
-use Rattle.st_laws_third.proofs.Demands.{every_demand_is_answered, left_has, right_has}
+use Rattle.st_laws_third.proofs.Chains.{left_has, right_has}
+use Rattle.st_laws_third.proofs.Demands.{every_demand_is_answered}
 use Rattle.st_laws_third.proofs.Moves.{Moved}
 use Rattle.st_laws_third.proofs.Sound.{Sound, kept_throughout, sound_first}
 
@@ -77,7 +78,7 @@ first_none (Some x) b e = absurd (no e)
     no : Some x ≡ None → ⊥
     no q = cc
 
-runs_there : (w : ThirdWorld) (k : ℕ) (sent : SentMessage) → message_of w.world k ≡ Some sent → worlds.refusal w (third.Plain (events.Deliver k)) ≡ None →
+pub runs_there : (w : ThirdWorld) (k : ℕ) (sent : SentMessage) → message_of w.world k ≡ Some sent → worlds.refusal w (third.Plain (events.Deliver k)) ≡ None →
     is_running w.world (receiver_of w.world sent) ≡ true
 unfolding worlds.refusal worlds.plain_refusal worlds.refused_delivery admissible.stands
 runs_there w k sent e r =
@@ -118,7 +119,7 @@ module _ (w : ThirdWorld) (so : Sound w) (c : ClientId) (site : WorldClient) (th
       (subst (λ x. Seen (if x then every.third_takes w c (takes.Plain (inputs.Control message)) site (beside_of w c) else every.plain_takes w c (takes.Plain (inputs.Control message)) site)) (sym so.form)
       (subst (λ o. Seen (every.third_takes w c (takes.Plain (inputs.Control message)) site o)) (sym b.1) (says_it b.0 b.1))))
 
-answers_demands : (past : List ThirdStep) (t : ThirdTraced) (e : ThirdEvent) → Sound t.third → worlds.refusal t.third e ≡ None →
+pub answers_demands : (past : List ThirdStep) (t : ThirdTraced) (e : ThirdEvent) → Sound t.third → worlds.refusal t.third e ≡ None →
     Moved t.third (every.happens (third_counted t.third) e).third → DemandsAreAnswered past (steps.third_step t e (every.happens (third_counted t.third) e))
 unfolding every.happens every.plain_happens every.delivers
 answers_demands past t e so q m k sent c site ino g to a s p found is receiver there r f =

@@ -22,21 +22,13 @@ use Rattle.st_third.specs.State.{Beside, ThirdClientTurn, ThirdTurn, all_said, a
 use Rattle.st_laws_third.specs.Changes.{ThirdChanges, ThirdLeaves, ThirdLoses, ThirdPasses, HasLeft, IsLost, Lasts, Stays, with_plain}
 use Rattle.st_laws_third.specs.Demands.{EveryDemandIsAnswered, IsInTime, demand_seen}
 use Rattle.st_laws_third.specs.Pairs.{IsPaired}
+use Rattle.st_laws_third.proofs.Chains.{left_has, right_has}
 use Rattle.st_laws_third.proofs.Facts.{changes_third}
 use Rattle.st_laws_third.proofs.Leaving.{loses}
 use Rattle.st_laws_third.proofs.Pairs as paired
 use Rattle.st_laws_third.proofs.Passing.{passes_change}
 use Rattle.st_laws_third.proofs.Receiving.{receives}
 use Rattle.st_laws_third.proofs.Stepping.{Stepped, changed, each_goes, loses_it, stepped_fit}
-
-pub left_has : {A : Type 0} (xs ys : List A) (x : A) → Has x xs → Has x (xs ++ ys)
-left_has [] ys x h = absurd h
-left_has (z ∷ xs) ys x (inl e) = inl e
-left_has (z ∷ xs) ys x (inr h) = inr (left_has xs ys x h)
-
-pub right_has : {A : Type 0} (xs ys : List A) (x : A) → Has x ys → Has x (xs ++ ys)
-right_has [] ys x h = h
-right_has (z ∷ xs) ys x h = inr (right_has xs ys x h)
 
 -- What was said stays said.
 

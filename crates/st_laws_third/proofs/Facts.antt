@@ -1,19 +1,27 @@
 -- What a list of changes of the third form leaves: the server and the life, what fits, what was said so
 -- far, and a session whose lease isn't older than before or was dated by a fresh welcome.
 use Rattle.st_lemmas.proofs.Words
-use Words.{◌≡◌, ℕ, true, List, [], ◌∷◌, ◌++◌, Option, Some, None, map, refl, sym, ap, ◌∙◌, subst, inl, inr, arith, append_assoc, map-append}
+use Words.{◌≡◌, ◌⊎◌, ℕ, true, List, [], ◌∷◌, ◌++◌, Option, Some, None, map, refl, sym, ap, ◌∙◌, subst, inl, inr, arith, append_assoc, map-append}
 use Words.{Config, DemandedFile, GrantNo, HeldLock, Mode, Output, PageNo, Stamp}
+use Words.{Body}
+use Words.bodies
 use Words.modes
+use Words.outputs
+use Words.Lists.{Has}
+use Words.Tables.{has_append, has_map}
+use Words.ClientPages.{Store}
 use Words.Keys.{page_no}
 use Words.ClientLocks as locks
 use Words.ClientPages as pages
 use Words.ClientPasses as passes
-use Words.ClientState.{ClientSession, Turn, with_cache, with_session, with_store}
+use Words.ClientState.{ClientSession, Requests, Turn, answer_to, asking, with_cache, with_session, with_store}
 use Words.Lengths.{nothing_after}
 use Rattle.st_laws_steps.specs.Client.Client as client
 use Rattle.st_laws_steps.specs.Client.Losses.{Fit, SessionFresh}
-use Rattle.st_laws_steps.proofs.Client.Nexts.{Next, change_next}
+use Rattle.st_laws_steps.specs.Client.Session.{MayAsk, SessionChange, Keeps, DropsLock, IsReasserted, EndsRequest, NewEpoch, AsksNew, AsksAgain}
+use Rattle.st_laws_steps.proofs.Client.Nexts.{change_next}
 use Rattle.st_third.specs.declared.output.ThirdOutput.{ThirdOutput}
+use Rattle.st_third.specs.declared.output.ThirdOutput.TheVariants as says
 use Rattle.st_rules.specs.ClientReplies.{new_session}
 use Rattle.st_third.specs.GiveBack.{demanded}
 use Rattle.st_third.specs.Limits.{limited_session}
@@ -21,7 +29,8 @@ use Rattle.st_third.specs.State.{ThirdTurn, all_said, plain_output, session}
 use Rattle.st_third.specs.UsedOnce.{reduced}
 use Rattle.st_laws_third.specs.Changes.{ThirdChange, ThirdChanges, Continues, Still, Then, Plainly, Says, Leaves, IsBeside, WaitsForRoom, Begins, GivesBack}
 use Rattle.st_laws_third.specs.Changes.{Reduces, with_plain}
-use Rattle.st_laws_third.specs.Sessions.{Dates}
+use Rattle.st_laws_third.specs.Changes.{PlainWord, Sends, SendsRight, Greets, Sees, Asks}
+use Rattle.st_laws_third.specs.Sessions.{AllFine, Dates, NoDemand, RequestFine, SessionFine, WordFine}
 
 -- Dates
 
@@ -49,10 +58,12 @@ pub record ThirdNext (now : Stamp) (t u : ThirdTurn) : Type 0 where
   pub fit : Fit t.plain.here → Fit u.plain.here
   pub more : List ThirdOutput
   pub said : all_said u ≡ all_said t ++ more
+  pub asks : SessionFine (session t) → SessionFine (session u)
+  pub quiet : SessionFine (session t) → AllFine more
 
 pub next_still : (now : Stamp) (t : ThirdTurn) → ThirdNext now t t
 next_still now t =
-    record { config = refl; limits = refl; server = refl; life = refl; dates = dates_same t.plain.config now (session t); fit = λ f. f; more = []; said = nothing_after (all_said t) }
+    record { config = refl; limits = refl; server = refl; life = refl; dates = dates_same t.plain.config now (session t); fit = λ f. f; more = []; said = nothing_after (all_said t); asks = λ f. f; quiet = λ f o h. absurd h }
 
 pub next_both : (now : Stamp) (t u v : ThirdTurn) → ThirdNext now t u → ThirdNext now u v → ThirdNext now t v
 next_both now t u v a b =
@@ -67,7 +78,13 @@ next_both now t u v a b =
       fit = λ f. b.fit (a.fit f);
       more = a.more ++ b.more;
       said = b.said ∙ ap (λ z. z ++ b.more) a.said ∙ append_assoc (all_said t) a.more b.more;
+      asks = λ f. b.asks (a.asks f);
+      quiet = λ f o h. either_of (a.quiet f) (b.quiet (a.asks f)) o (has_append a.more b.more o h);
     }
+  where
+    either_of : AllFine a.more → AllFine b.more → (o : ThirdOutput) → (Has o a.more) ⊎ (Has o b.more) → WordFine o
+    either_of x y o (inl i) = x o i
+    either_of x y o (inr i) = y o i
 
 -- A change of the first two forms.
 
@@ -93,17 +110,108 @@ plain_said t u more e =
     ∙ ap (λ os. t.said ++ os) (map-append plain_output t.plain.out more)
     ∙ sym (append_assoc t.said (map plain_output t.plain.out) (map plain_output more))
 
-plain_next : (now : Stamp) (t : ThirdTurn) (u : Turn) → Dates t.plain.config now (session t) u.here.session → Next now t.plain u →
-    ThirdNext now t (with_plain u t)
-plain_next now t u d n =
-    record { config = n.config; limits = refl; server = n.server; life = n.life; dates = d; fit = n.fit; more = map plain_output n.more; said = plain_said t u n.more n.out }
+-- what a change says
+record Spoken (t u : Turn) (k : Type 0) : Type 0 where
+  more : List Output
+  out : u.out ≡ t.out ++ more
+  fine : k → SessionFine t.here.session → (o : Output) → Has o more → WordFine (plain_output o)
+
+silent : (t u : Turn) (k : Type 0) → u.out ≡ t.out → Spoken t u k
+silent t u k e = record { more = []; out = e ∙ nothing_after t.out; fine = λ x f o h. absurd h }
+
+one_word : (t u : Turn) (k : Type 0) (o : Output) → u.out ≡ t.out ++ o ∷ [] → (k → SessionFine t.here.session → WordFine (plain_output o)) → Spoken t u k
+one_word t u k o e f = record { more = o ∷ []; out = e; fine = λ x g y h. one x g y h }
+  where
+    one : k → SessionFine t.here.session → (y : Output) → Has y (o ∷ []) → WordFine (plain_output y)
+    one x g y (inl q) = subst (λ z. WordFine (plain_output z)) (sym q) (f x g)
+    one x g y (inr i) = absurd i
+
+sent_fine : (t : Turn) (b : Body) → Sends t b → SessionFine t.here.session → NoDemand b
+sent_fine t _ Greets f = tt
+sent_fine t _ (Sees ino g) f = tt
+sent_fine t b (Asks s q _ e p i) f = subst NoDemand (sym i) (subst RequestFine p (subst SessionFine e f))
+
+said_fine : (t : Turn) (o : Output) → SendsRight t o → SessionFine t.here.session → WordFine (plain_output o)
+said_fine t (outputs.Send m) s f = sent_fine t m.body s f
+said_fine t (outputs.Submit number at what) s f = tt
+said_fine t (outputs.Answer op a) s f = tt
+said_fine t (outputs.Note n) s f = tt
+
+spoken : (now : Stamp) (t u : Turn) (c : client.Change now t u) → Spoken t u (Continues now t u c)
+unfolding passes.submit_read passes.submit_write passes.submit_command
+spoken now t _ (client.Says _ o p) = one_word t _ _ o refl (λ k f. said_fine t o k f)
+spoken now t _ (client.Operates _ os) = silent t _ _ refl
+spoken now t _ (client.Answers _ os ops a) =
+    record {
+      more = map (answer_to a) ops;
+      out = refl;
+      fine = λ k f o h. let z = has_map (answer_to a) ops o h in subst (λ x. WordFine (plain_output x)) (sym z.2) tt;
+    }
+spoken now t _ (client.Greets _ g) = silent t _ _ refl
+spoken now t _ (client.TellsLost _ lost) = silent t _ _ refl
+spoken now t _ (client.Begins _ s a b c) = silent t _ _ refl
+spoken now t _ (client.Follows _ s u e g) = silent t _ _ refl
+spoken now t _ (client.Learns _ e u h) = silent t _ _ refl
+spoken now t _ (client.Forgets _ ino p i) = silent t _ _ refl
+spoken now t _ (client.Caches _ clean) = silent t _ _ refl
+spoken now t _ (client.Writes _ s f p bytes x sv own m h i) = one_word t _ _ (outputs.Note x) refl (λ k f. tt)
+spoken now t _ (client.Reads _ ino p m i clean) = one_word t _ _ _ refl (λ k f. tt)
+spoken now t _ (client.Submits _ s ino p d m e i k w) = one_word t _ _ _ refl (λ k f. tt)
+
+-- what may be asked isn't a demand
+may_fine : (s : ClientSession) (cutting : Option ℕ) (b : Body) → MayAsk s cutting b → NoDemand b
+may_fine s cutting (bodies.Demand ino g to) m = absurd m
+may_fine s cutting b m = tt
+
+session_fine : (st : Store) (s u : ClientSession) → SessionChange st s u → SessionFine (Some s) → SessionFine (Some u)
+unfolding asking
+session_fine st s u (Keeps _ _ a) f = subst (λ (r : Requests). RequestFine r.asked) (sym a.requests) f
+session_fine st s _ (DropsLock _ ino l) f = f
+session_fine st s _ (IsReasserted _) f = f
+session_fine st s _ (EndsRequest _ stamp) f = tt
+session_fine st s _ (NewEpoch _ epoch n) f = tt
+session_fine st s _ (AsksNew _ r now body cutting a c i) f = may_fine r cutting body i.may
+session_fine st s _ (AsksAgain _ now q e) f = subst RequestFine e f
+
+asks_fine : (now : Stamp) (t u : Turn) (c : client.Change now t u) → Continues now t u c → SessionFine t.here.session → SessionFine u.here.session
+unfolding passes.submit_read passes.submit_write passes.submit_command
+asks_fine now t _ (client.Says _ o p) n f = f
+asks_fine now t _ (client.Operates _ os) n f = f
+asks_fine now t _ (client.Answers _ os ops a) n f = f
+asks_fine now t _ (client.Greets _ g) n f = f
+asks_fine now t _ (client.TellsLost _ lost) n f = f
+asks_fine now t _ (client.Begins _ s a b c) n f = absurd n
+asks_fine now t _ (client.Follows _ s u e g) n f = session_fine t.here.store s u g.how (subst SessionFine e f)
+asks_fine now t _ (client.Learns _ e u h) n f = f
+asks_fine now t _ (client.Forgets _ ino p i) n f = f
+asks_fine now t _ (client.Caches _ clean) n f = f
+asks_fine now t _ (client.Writes _ s g p bytes x sv own m h i) n f = f
+asks_fine now t _ (client.Reads _ ino p m i clean) n f = f
+asks_fine now t _ (client.Submits _ s ino p d m e i k w) n f = f
+
+plain_next : (now : Stamp) (t : ThirdTurn) (u : Turn) (c : client.Change now t.plain u) → Continues now t.plain u c → ThirdNext now t (with_plain u t)
+plain_next now t u c k =
+    let n = change_next now t.plain u c in
+    let w = spoken now t.plain u c in
+    record {
+      config = n.config;
+      limits = refl;
+      server = n.server;
+      life = n.life;
+      dates = continues_dates now t.plain u c k;
+      fit = n.fit;
+      more = map plain_output w.more;
+      said = plain_said t u w.more w.out;
+      asks = asks_fine now t.plain u c k;
+      quiet = λ f o h. let z = has_map plain_output w.more o h in subst WordFine (sym z.2) (w.fine k f z.0 z.1);
+    }
 
 -- A change of the session alone.
 
 session_next : (now : Stamp) (t : ThirdTurn) (u : ClientSession) → Dates t.plain.config now (session t) (Some u) →
-    (SessionFresh t.plain.here.store (session t) → SessionFresh t.plain.here.store (Some u)) → ThirdNext now t (with_plain (with_session u t.plain) t)
-session_next now t u d f =
-    record { config = refl; limits = refl; server = refl; life = refl; dates = d; fit = λ h. record { mapped = h.mapped; fresh = f h.fresh }; more = []; said = nothing_after (all_said t) }
+    (SessionFresh t.plain.here.store (session t) → SessionFresh t.plain.here.store (Some u)) → (SessionFine (session t) → SessionFine (Some u)) → ThirdNext now t (with_plain (with_session u t.plain) t)
+session_next now t u d f g =
+    record { config = refl; limits = refl; server = refl; life = refl; dates = d; fit = λ h. record { mapped = h.mapped; fresh = f h.fresh }; more = []; said = nothing_after (all_said t); asks = g; quiet = λ x o h. absurd h }
 
 -- A reduction
 
@@ -118,12 +226,12 @@ reduced_next now t s d ino e i = held (locks.lock_of s.locks d.ino)
         let z : ClientSession = passes.released (with_cache r.locks s) ino g to in
         next_both now t v _ (forgets to)
         (session_next now v z (subst (λ o. Dates t.plain.config now o (Some z)) (sym e) (inl (omega arith)))
-        (λ f. subst (SessionFresh v.plain.here.store) e f))
+        (λ f. subst (SessionFresh v.plain.here.store) e f) (λ f. subst SessionFine e f))
       where
         forgets : (to : Mode) → ThirdNext now t (with_plain (with_store (passes.forgotten_at ino to t.plain.here.store) t.plain) t)
         forgets modes.None =
             let c : client.Change now t.plain _ = client.Forgets t.plain ino (page_no 0) i in
-            plain_next now t _ (dates_same t.plain.config now (session t)) (change_next now t.plain _ c)
+            plain_next now t _ c tt
         forgets modes.S = next_still now t
         forgets modes.X = next_still now t
 
@@ -136,28 +244,40 @@ reduced_next now t s d ino e i = held (locks.lock_of s.locks d.ino)
 
 -- Changes
 
+-- a word of the third form isn't a message
+said_word : (o : ThirdOutput) → PlainWord o → (x : ThirdOutput) → Has x (o ∷ []) → WordFine x
+said_word o w x (inl e) = subst WordFine (sym e) (word o w)
+  where
+    word : (o : ThirdOutput) → PlainWord o → WordFine o
+    word (says.Plain (outputs.Send m)) w = absurd w
+    word (says.Plain (outputs.Submit number at what)) w = tt
+    word (says.Plain (outputs.Answer op a)) w = tt
+    word (says.Plain (outputs.Note n)) w = tt
+    word (says.Left op) w = tt
+    word (says.Unsynced op ino) w = tt
+    word (says.Ended s life end) w = tt
+said_word o w x (inr i) = absurd i
+
 change_third : (now : Stamp) (t u : ThirdTurn) → ThirdChange now t u → ThirdNext now t u
 unfolding Rattle.st_third.specs.State.say Rattle.st_third.specs.State.plainly
-change_third now t _ (Plainly _ u c p) = plain_next now t u (continues_dates now t.plain u c p) (change_next now t.plain u c)
+change_third now t _ (Plainly _ u c p) = plain_next now t u c p
 change_third now t _ (Says _ o w) =
-    record { config = refl; limits = refl; server = refl; life = refl; dates = dates_same t.plain.config now (session t); fit = λ f. f; more = o ∷ []; said = sym (nothing_after (all_said t ++ o ∷ [])) }
-change_third now t _ (Leaves _ ls) = next_of t refl
-  where
-    next_of : (t : ThirdTurn) → t ≡ t → ThirdNext now t (record t { leaves = ls })
-    next_of t e = record { config = refl; limits = refl; server = refl; life = refl; dates = dates_same t.plain.config now (session t); fit = λ f. f; more = []; said = nothing_after (all_said t) }
+    record { config = refl; limits = refl; server = refl; life = refl; dates = dates_same t.plain.config now (session t); fit = λ f. f; more = o ∷ []; said = sym (nothing_after (all_said t ++ o ∷ [])); asks = λ f. f; quiet = λ f x h. said_word o w x h }
+change_third now t _ (Leaves _ ls) =
+    record { config = refl; limits = refl; server = refl; life = refl; dates = dates_same t.plain.config now (session t); fit = λ f. f; more = []; said = nothing_after (all_said t); asks = λ f. f; quiet = λ f o h. absurd h }
 change_third now t _ (IsBeside _ b) =
-    record { config = refl; limits = refl; server = refl; life = refl; dates = dates_same t.plain.config now (session t); fit = λ f. f; more = []; said = nothing_after (all_said t) }
+    record { config = refl; limits = refl; server = refl; life = refl; dates = dates_same t.plain.config now (session t); fit = λ f. f; more = []; said = nothing_after (all_said t); asks = λ f. f; quiet = λ f o h. absurd h }
 change_third now t _ (WaitsForRoom _ n) =
-    record { config = refl; limits = refl; server = refl; life = refl; dates = dates_same t.plain.config now (session t); fit = λ f. f; more = []; said = nothing_after (all_said t) }
+    record { config = refl; limits = refl; server = refl; life = refl; dates = dates_same t.plain.config now (session t); fit = λ f. f; more = []; said = nothing_after (all_said t); asks = λ f. f; quiet = λ f o h. absurd h }
 change_third now t _ (Begins _ epoch stamp e f) =
     let u : ClientSession = limited_session t.limits (new_session epoch stamp) in
-    session_next now t u (subst (λ z. Dates t.plain.config now z (Some u)) (sym e) f) (λ h x q. absurd (no x q))
+    session_next now t u (subst (λ z. Dates t.plain.config now z (Some u)) (sym e) f) (λ h x q. absurd (no x q)) (λ f. tt)
   where
     no : (x : ℕ × PageNo) → ◌≡◌ {A = Option (ℕ × PageNo)} None (Some x) → ⊥
     no x q = cc
 change_third now t _ (GivesBack _ s l e h) =
     session_next now t (demanded l.ino s) (subst (λ z. Dates t.plain.config now z (Some (demanded l.ino s))) (sym e) (inl (omega arith)))
-    (λ f. subst (SessionFresh t.plain.here.store) e f)
+    (λ f. subst (SessionFresh t.plain.here.store) e f) (λ f. subst SessionFine e f)
 change_third now t _ (Reduces _ s d ino e q i) = reduced_next now t s d ino e i
 
 pub changes_third : (now : Stamp) (t u : ThirdTurn) → ThirdChanges now t u → ThirdNext now t u

@@ -13,7 +13,7 @@ use Rattle.st_third.specs.declared.output.ThirdOutput.TheVariants as says
 use Rattle.st_third.specs.Leave as leaving
 use Rattle.st_third.specs.State as third
 use Rattle.st_third.specs.State.{ThirdTurn, plainly, session}
-use Rattle.st_laws_third.specs.Changes.{ThirdChanges, ThirdLeaves, ThirdLoses, HasLeft, IsLost, Lasts, Leaves, Says, Stays, Still}
+use Rattle.st_laws_third.specs.Changes.{ThirdChanges, ThirdLeaves, ThirdLoses, Greets, HasLeft, IsLost, Lasts, Leaves, Says, Stays, Still}
 use Rattle.st_laws_third.proofs.Chains.{both, by_rule, either, leave_answered, old_both, old_calm, old_one, one}
 use Rattle.st_laws_third.proofs.UsedOnce.{reduces_each}
 
@@ -55,7 +55,7 @@ module _ {now : Stamp} where
   greets tick t = go (session t)
     where
       hello : ThirdChanges now t (plainly (leaving.hello now) t)
-      hello = by_rule t (leaving.hello now) (old_both (old_one (client.Greets t.plain (Some now)) tt) (old_one (client.Says (passes.with_greeting now t.plain) _ tt) tt))
+      hello = by_rule t (leaving.hello now) (old_both (old_one (client.Greets t.plain (Some now)) tt) (old_one (client.Says (passes.with_greeting now t.plain) _ tt) Greets))
 
       go : (x : Option ClientSession) → ThirdChanges now t (leaving.greeting_by t now tick x)
       go None = either (leaving.must_greet t now tick) t _ _ (λ e. hello) (λ e. Still t)

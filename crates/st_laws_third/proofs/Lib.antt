@@ -20,3 +20,7 @@ mod Sound
 mod Welcomes
 mod Demands
 mod DemandRuns
+mod ServerWords
+mod ClientWords
+mod Mail
+mod DemandsSeen

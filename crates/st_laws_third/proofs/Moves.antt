@@ -37,7 +37,7 @@ pub record Core : Type 0 where
   pub config : Config
   pub form : ℕ
 
-abbrev core : World → Core
+abbrev pub core : World → Core
 core w = record { clients = w.clients; clocks = w.clocks; config = w.config; form = w.form }
 
 -- the same, and what clients have beside their state
@@ -45,7 +45,7 @@ pub record ThirdCore : Type 0 where
   pub plain : Core
   pub besides : List ClientBeside
 
-abbrev third_core : ThirdWorld → ThirdCore
+abbrev pub third_core : ThirdWorld → ThirdCore
 third_core w = record { plain = core w.world; besides = w.besides }
 
 -- Outputs of a client.
@@ -103,7 +103,7 @@ flushes_keep c state (s ∷ ss) w =
     flushes_keep c state ss (ev.flushed_at w c s state)
     ∙ flushed_keeps w c s (plain.lease_end_with state s) (plain.phase_with state s (clock_of w (nodes.Client c)))
 
-took_core : (w : ThirdWorld) (c : ClientId) (site : WorldClient) (t : ThirdClientTurn) →
+pub took_core : (w : ThirdWorld) (c : ClientId) (site : WorldClient) (t : ThirdClientTurn) →
     third_core (every.client_took w c site t).third ≡ third_core (every.with_client c site t.client w)
 unfolding every.client_took
 took_core w c site t =

@@ -173,7 +173,7 @@ module _ (promise : ThirdPromise)
 
 -- At the start.
 
-numbered_map : {A B : Type 0} (f : A → B) (xs : List A) (n : ℕ) → numbered (map f xs) n ≡ option_map f (numbered xs n)
+pub numbered_map : {A B : Type 0} (f : A → B) (xs : List A) (n : ℕ) → numbered (map f xs) n ≡ option_map f (numbered xs n)
 numbered_map f xs zero = refl
 numbered_map f xs (suc n) = get_map f xs n
 

@@ -3,14 +3,20 @@
 use Rattle.std.specs.Prelude.{◌≡◌, ℕ, ◌+◌, ◌<◌, Bool, true, false, List, Some, None}
 use Rattle.st_base.specs.declared.ids.Epoch.{Epoch}
 use Rattle.st_base.specs.declared.ids.Stamp.{Stamp}
+use Rattle.st_base.specs.declared.ids.GrantNo.{GrantNo}
+use Rattle.st_messages.specs.declared.message.Body.{Body}
+use Rattle.st_messages.specs.declared.message.Body.TheVariants as bodies
+use Rattle.st_messages.specs.declared.output.Output.{Output}
+use Rattle.st_messages.specs.declared.output.Output.TheVariants as outputs
 use Rattle.st_rules.specs.declared.client.DemandedFile.{DemandedFile}
+use Rattle.st_rules.specs.declared.client.Request.{Request}
 use Rattle.st_rules.specs.declared.client.HeldLock.{HeldLock}
 use Rattle.st_rules.specs.ClientLease as lease
 use Rattle.st_rules.specs.ClientPages as pages
 use Rattle.st_rules.specs.ClientReplies as replies
 use Rattle.st_rules.specs.ClientState.{ClientSession, Turn}
 use Rattle.st_laws_steps.specs.Client.Client as client
-use Rattle.st_laws_steps.specs.Client.Client.{Change, Plain}
+use Rattle.st_laws_steps.specs.Client.Client.{Change}
 use Rattle.st_laws_steps.specs.Client.Losses.{Ends, is_ended}
 use Rattle.st_lemmas.specs.Lists.{Has}
 use Rattle.st_third.specs.declared.beside.Leave.{Leave}
@@ -34,15 +40,32 @@ with_leaves ls t = record t { leaves = ls }
 abbrev pub with_room : ℕ → ThirdTurn → ThirdTurn
 with_room n t = record t { room = n }
 
--- a word that ends no life, and changes neither the log nor the commands
+-- an answer to an application
+abbrev pub IsAnswer : Output → Type 0
+IsAnswer (outputs.Answer op a) = Unit {0}
+IsAnswer o = ⊥
+
+-- an answer, or a word of the third form; but not the end of a life
 abbrev pub PlainWord : ThirdOutput → Type 0
-PlainWord (says.Plain o) = Plain o
+PlainWord (says.Plain o) = IsAnswer o
 PlainWord (says.Ended s life end) = ⊥
 PlainWord o = Unit {0}
 
--- a change of the first two forms that begins no session
+-- What a client sends: a greeting, that a demand was seen, or what it asks.
+pub data Sends (t : Turn) : Body → Type 0 where
+  Greets : Sends t bodies.Hello
+  Sees : (ino : ℕ) (g : GrantNo) → Sends t (bodies.DemandSeen ino g)
+  Asks : (s : ClientSession) (q : Request) (b : Body) → t.here.session ≡ Some s → s.requests.asked ≡ Some q → b ≡ q.body → Sends t b
+
+-- a message is one of these
+abbrev pub SendsRight : Turn → Output → Type 0
+SendsRight t (outputs.Send m) = Sends t m.body
+SendsRight t o = Unit {0}
+
+-- a change of the first two forms that begins no session, and sends nothing else
 abbrev pub Continues : (now : Stamp) (t u : Turn) → Change now t u → Type 0
 Continues now t _ (client.Begins _ s a b c) = ⊥
+Continues now t _ (client.Says _ o p) = SendsRight t o
 Continues now t u c = Unit {0}
 
 -- One change, by a rule at a moment.

@@ -6,3 +6,4 @@ pub mod Rules
 pub mod Welcomes
 pub mod Demands
 pub mod Invariants
+pub mod DemandsSeen

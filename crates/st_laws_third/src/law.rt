@@ -1,4 +1,5 @@
 ghost use Rattle.st_laws_third.specs.Demands.{EveryDemandIsAnswered, EveryRunAnswersDemands};
+ghost use Rattle.st_laws_third.specs.DemandsSeen.{EveryDemandIsSeen};
 ghost use Rattle.st_laws_third.specs.FirstForms.{FirstHeadsStay, FirstRunsStay, FirstStepsStay};
 ghost use Rattle.st_laws_third.specs.Invariants.{EveryClientFits};
 ghost use Rattle.st_laws_third.specs.Pairs.{ClientsStayPaired};
@@ -67,4 +68,10 @@ pub fn every_client_fits()
 /// isn't older than the client's lock of the file, is answered as seen in the same step.
 pub fn every_run_answers_demands()
     ensures { EveryRunAnswersDemands }
+{}
+
+/// In every run of the third form, a demand that a client gets in a session of its life and epoch,
+/// for a file of which it has no lock, is answered as seen in the same step.
+pub fn every_demand_is_seen()
+    ensures { EveryDemandIsSeen }
 {}
