@@ -33,7 +33,7 @@ use Rattle.st_laws_leases.specs.Dates.Dates.{message_in}
 use Rattle.st_laws_pages.proofs.Asks.Client.{key}
 use Rattle.st_laws_volume.proofs.AnswerLines.{AllFit, fit_last}
 use Rattle.st_laws_volume.proofs.AskClient.{coming}
-use Rattle.st_laws_volume.proofs.ClientAnswers.{IsPlain, IsSilent, Keeps, Reads, Refuses, SessionIn, Syncs, Tells, WaitsFor, stepped}
+use Rattle.st_laws_volume.proofs.ClientAnswers.{IsPlain, IsSilent, Keeps, KeepsLosses, Reads, Refuses, SessionIn, Syncs, Tells, WaitsFor, stepped}
 use Rattle.st_laws_volume.proofs.ClientAnswers as walk
 use Rattle.st_laws_volume.proofs.EventAnswers.{ByAsk, ByMessage, ByReport, ByTick, Given, TakesAt, given_by, given_last, of_output}
 use Rattle.st_laws_volume.proofs.SessionEpochs.{EpochsRight, Within}
@@ -134,15 +134,31 @@ module _ (t : World) (c : ClientId) (start : List (ℕ × Ask)) (input : ClientI
     abbrev Cuts : Ask → Type 0
     Cuts a = cs.is_cut_or_name a ≡ true
 
-    keeps : Keeps Known Cuts (λ a e. e) (Within t) There All now input (cl.losses (client_turn s []) now)
-    keeps =
+    abbrev Free : ℕ → Type 0
+    Free op = Unit {0}
+
+    silent_says : (out : List Output) (o : Output) → IsSilent o → All out → All (out ++ o ∷ [])
+    silent_says out o e h =
+        subst (AllFit Fits) (sym (given_last c out o ∙ (ap (λ gs. given_by c out ++ gs) (silent_none o e) ∙ append-nil (given_by c out)))) h
+
+    losses : KeepsLosses Known Free Cuts (λ a e. e) (Within t) There All now
+    losses =
         record {
-          silent = λ out o e h. subst (AllFit Fits)
-              (sym (given_last c out o ∙ (ap (λ gs. given_by c out ++ gs) (silent_none o e) ∙ append-nil (given_by c out)))) h;
+          silent = silent_says;
           plain = λ out op a e h. one_says out op a (plain_says op a e) h;
           uncertain = λ out v o n k a d f h.
               one_says out o.op (answers.Uncertain n 0)
               (record { ask = o.ask; known = k; cut = d; old = subst (λ y. Within t y n) (server_is v o a) f; new = inl refl }) h;
+          quiesced = λ out o k u h. one_says out o.op answers.Quiesced tt h;
+        }
+
+    keeps : Keeps Known Free Cuts (λ a e. e) (Within t) There All now input (cl.losses (client_turn s []) now)
+    keeps =
+        record {
+          comes = λ op ask i. tt;
+          silent = silent_says;
+          plain = λ out op a e h. one_says out op a (plain_says op a e) h;
+          quiesced = λ out o k u n h. one_says out o.op answers.Quiesced tt h;
           newer = λ out v o n m k a d f g l h.
               one_says out o.op (answers.Uncertain n m)
               (record {
@@ -166,7 +182,7 @@ module _ (t : World) (c : ClientId) (start : List (ℕ × Ask)) (input : ClientI
 
     pub all_say : All (cl.client_step s now input).out
     all_say =
-        (stepped Known Cuts (λ a e. e) (Within t) There All now s input keeps (λ a x i. absurd i)
+        (stepped Known Free Cuts (λ a e. e) (Within t) There All now s input losses keeps (λ a x i. absurd i)
         (λ a i. (
           (subst (λ (y : ClientState). (b : Association) → Has b y.associations → SessionIn (Within t) b.server b.session) is
               (right.clients c site at).sessions) a i,
@@ -174,8 +190,11 @@ module _ (t : World) (c : ClientId) (start : List (ℕ × Ask)) (input : ClientI
         ))
         (λ o i. (
           subst (Has (key o)) (sym from) (has_left (map key s.operations) (coming input) (key o) (has_map_in key s.operations o i)),
-          (subst (λ (y : ClientState). (p : Operation) → Has p y.operations → cs.is_sent p ≡ true → cs.is_cut_or_name p.ask ≡ true) is
-              (right.clients c site at).sent) o i,
+          record {
+            sent = (subst (λ (y : ClientState). (p : Operation) → Has p y.operations → cs.is_sent p ≡ true → cs.is_cut_or_name p.ask ≡ true) is
+                (right.clients c site at).sent) o i;
+            unsent = λ e. tt;
+          },
         ))
         tt (asks_known input from tells)).kept
 

@@ -89,7 +89,7 @@ none_fit which (g ∷ gs) h = ((λ u w. clash w h.0), none_fit which gs h.1)
 
 module _ (goal : VolumeStep → Volume → Type 0) (of : OfAnswers goal) where
   -- a line, by its answer
-  block_by : (w : World) (o : Observation) (os : List Observation) (v : Volume) →
+  pub block_by : (w : World) (o : Observation) (os : List Observation) (v : Volume) →
       ((c : ClientId) (op : ℕ) (a : AppAnswer) → o ≡ seen.Answered c op a → goal (kinds.Answered c op a) v) → AtEachStep goal (block w o os) v
   unfolding before_line of_line AtEachStep
   block_by w (seen.Answered c op a) os v h = at_one goal (kinds.Answered c op a) v (h c op a refl)

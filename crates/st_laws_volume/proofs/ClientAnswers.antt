@@ -58,6 +58,7 @@ IsPlain answers.NoFile = ⊥
 IsPlain answers.TooManyLocks = ⊥
 IsPlain (answers.NoSpace a b) = ⊥
 IsPlain answers.NotHolder = ⊥
+IsPlain answers.Quiesced = ⊥
 IsPlain a = Unit {0}
 
 -- a command that failed, and an operation that waits for it
@@ -98,22 +99,36 @@ granted s ino g mode _ (trace.Installs x y) = refl
 granted s ino g mode _ (trace.Declines x y) = refl
 granted s ino g mode _ (trace.IsOld x) = refl
 
--- What is known of asks by their numbers, and of those that are sent themselves; the epochs that sessions of a server may have; a fact of
--- associations before the input; and the fact of the outputs.
-module _ (Known : ℕ → Ask → Type 0) (Cuts : Ask → Type 0) (cuts : (a : Ask) → cs.is_cut_or_name a ≡ true → Cuts a) (Epochs : ServerId → ℕ → Type 0)
-    (Is : Association → Type 0) (P : List Output → Type 0) (now : Stamp) where
+-- a fact of an operation that isn't sent, and one of its ask once it is sent itself
+pub record StageFits (Unsent : ℕ → Type 0) (Cuts : Ask → Type 0) (o : Operation) : Type 0 where
+  pub sent : cs.is_sent o ≡ true → Cuts o.ask
+  pub unsent : cs.is_sent o ≡ false → Unsent o.op
+
+-- What is known of asks by their numbers, of the numbers of those that aren't sent, and of those that are sent themselves; the epochs that sessions of a
+-- server may have; a fact of associations before the input; and the fact of the outputs.
+module _ (Known : ℕ → Ask → Type 0) (Unsent : ℕ → Type 0) (Cuts : Ask → Type 0) (cuts : (a : Ask) → cs.is_cut_or_name a ≡ true → Cuts a)
+    (Epochs : ServerId → ℕ → Type 0) (Is : Association → Type 0) (P : List Output → Type 0) (now : Stamp) where
   abbrev pub IsKnown : Operation → Type 0
   IsKnown o = Known o.op o.ask
 
   abbrev pub IsSentRight : Operation → Type 0
-  IsSentRight o = cs.is_sent o ≡ true → Cuts o.ask
+  IsSentRight = StageFits Unsent Cuts
 
-  -- what each output keeps, in a step that takes this input, after these losses
-  pub record Keeps (input : ClientInput) (lost : ClientTurn) : Type 0 where
+  -- what each output of the losses keeps
+  pub record KeepsLosses : Type 0 where
     pub silent : (out : List Output) (o : Output) → IsSilent o → P out → P (out ++ o ∷ [])
     pub plain : (out : List Output) (op : ℕ) (a : AppAnswer) → IsPlain a → P out → P (out ++ outputs.Answer op a ∷ [])
     pub uncertain : (out : List Output) (s : ServerId) (o : Operation) (n : ℕ) → IsKnown o → cs.is_of s o ≡ true → Cuts o.ask →
         Epochs s n → P out → P (out ++ outputs.Answer o.op (answers.Uncertain n 0) ∷ [])
+    pub quiesced : (out : List Output) (o : Operation) → IsKnown o → Unsent o.op → P out → P (out ++ outputs.Answer o.op answers.Quiesced ∷ [])
+
+  -- what each later output keeps, in a step that takes this input, after these losses
+  pub record Keeps (input : ClientInput) (lost : ClientTurn) : Type 0 where
+    pub comes : (op : ℕ) (ask : Ask) → input ≡ inputs.App op ask → Unsent op
+    pub silent : (out : List Output) (o : Output) → IsSilent o → P out → P (out ++ o ∷ [])
+    pub plain : (out : List Output) (op : ℕ) (a : AppAnswer) → IsPlain a → P out → P (out ++ outputs.Answer op a ∷ [])
+    pub quiesced : (out : List Output) (o : Operation) → IsKnown o → Unsent o.op → cs.is_sync o.ask ≡ false → P out →
+        P (out ++ outputs.Answer o.op answers.Quiesced ∷ [])
     pub newer : (out : List Output) (s : ServerId) (o : Operation) (n m : ℕ) → IsKnown o → cs.is_of s o ≡ true → Cuts o.ask →
         Epochs s n → Epochs s m → n < m → P out → P (out ++ outputs.Answer o.op (answers.Uncertain n m) ∷ [])
     pub full : (op : ℕ) (ask : Ask) → input ≡ inputs.App op ask → cl.is_full lost.state ≡ true → P lost.out →
@@ -143,16 +158,89 @@ module _ (Known : ℕ → Ask → Type 0) (Cuts : Ask → Type 0) (cuts : (a : A
     pub operations : AllRight t.state.operations
     pub each : (a : Association) → Has a t.state.associations → Each a
 
-  module _ (input : ClientInput) (lost : ClientTurn) (k : Keeps input lost) where
-    -- operations in order
-    one_more : (os : List Operation) (o : Operation) → IsKnown o × IsSentRight o → AllRight os → AllRight (os ++ o ∷ [])
-    one_more os o r h x i = go (has_append os (o ∷ []) x i)
-      where
-        go : Has x os ⊎ Has x (o ∷ []) → IsKnown x × IsSentRight x
-        go (inl j) = h x j
-        go (inr (inl e)) = subst (λ y. IsKnown y × IsSentRight y) (sym e) r
-        go (inr (inr j)) = absurd j
+  -- operations in order
+  one_more : (os : List Operation) (o : Operation) → IsKnown o × IsSentRight o → AllRight os → AllRight (os ++ o ∷ [])
+  one_more os o r h x i = go (has_append os (o ∷ []) x i)
+    where
+      go : Has x os ⊎ Has x (o ∷ []) → IsKnown x × IsSentRight x
+      go (inl j) = h x j
+      go (inr (inl e)) = subst (λ y. IsKnown y × IsSentRight y) (sym e) r
+      go (inr (inr j)) = absurd j
 
+  -- A rule at each server in turn.
+  module _ (Before After : Association → Type 0) (rule : Turn → Turn) (fine : (a : Association) → Before a → Fine a)
+      (one : (t : Turn) → Before t.here → Holds t → Holds (rule t) × After (rule t).here) where
+    these : (al : List Association) (t : ClientTurn) → ((a : Association) → Has a al → Before a) → AllHold After t → AllHold After (at_these rule al t)
+    unfolding at_these
+    these [] t b h = h
+    these (a ∷ al) t b h =
+        let z = one (enter t a) (b a (inl refl)) (record { kept = h.kept; operations = h.operations; session = fine a (b a (inl refl)) }) in
+        these al (leave t (rule (enter t a))) (λ x i. b x (inr i))
+        (record { kept = z.0.kept; operations = z.0.operations; each = λ x i. go x z.1 (has_append t.state.associations _ x i) })
+      where
+        go : (x : Association) → After (rule (enter t a)).here → Has x t.state.associations ⊎ Has x ((rule (enter t a)).here ∷ []) → After x
+        go x f (inl i) = h.each x i
+        go x f (inr (inl e)) = subst After (sym e) f
+        go x f (inr (inr i)) = absurd i
+
+    each : (t : ClientTurn) → AllHold Before t → AllHold After (at_each rule t)
+    unfolding at_each
+    each t h = these t.state.associations (with_associations [] t) h.each (record { kept = h.kept; operations = h.operations; each = λ a i. absurd i })
+
+  abbrev pub Both : Association → Type 0
+  Both a = Fine a × Is a
+
+  -- Losses.
+  module _ (k : KeepsLosses) where
+    module _ (s : ClientSession) (server : ServerId) (epoch : Epochs server s.epoch.0) where
+      record Ending (os : List Operation) (t : Turn) : Type 0 where
+        at : t.here.server ≡ server
+        kept : P t.out
+        operations : AllRight t.operations
+        left : AllRight os
+
+      ended : (o : Operation) (os : List Operation) (t u : Turn) → Ended s o t u → Ending (o ∷ os) t → Ending os u
+      ended o os t _ (losing.IsElsewhere e) h =
+          record { at = h.at; kept = h.kept; operations = one_more t.operations o (h.left o (inl refl)) h.operations; left = λ x i. h.left x (inr i) }
+      ended o os t _ (losing.IsUncertain e f) h =
+          let r = h.left o (inl refl) in
+          record {
+            at = h.at;
+            kept = k.uncertain t.out server o s.epoch.0 r.0 (subst (λ v. cs.is_of v o ≡ true) h.at e) (r.1.sent f) epoch h.kept;
+            operations = h.operations;
+            left = λ x i. h.left x (inr i);
+          }
+      ended o os t _ (losing.IsToldLost f e q a l) h =
+          record { at = h.at; kept = k.plain t.out o.op _ tt h.kept; operations = h.operations; left = λ x i. h.left x (inr i) }
+      ended o os t _ (losing.LostNothing f e q a l) h =
+          let r = h.left o (inl refl) in
+          record { at = h.at; kept = k.quiesced t.out o r.0 (r.1.unsent q) h.kept; operations = h.operations; left = λ x i. h.left x (inr i) }
+      ended o os t _ (losing.IsQuiesced e q a) h =
+          let r = h.left o (inl refl) in
+          record { at = h.at; kept = k.quiesced t.out o r.0 (r.1.unsent q) h.kept; operations = h.operations; left = λ x i. h.left x (inr i) }
+
+    lose_holds : (gone : (a : Association) → Is (cl.emptied a)) → (t : Turn) → Is t.here → Holds t → Holds (cl.lose now t) × Is (cl.lose now t).here
+    lose_holds gone t i h = go (cl.lose now t) (loses now t)
+      where
+        go : (u : Turn) → Loses now t u → Holds u × Is u.here
+        go _ (losing.HasNoSession e) = (h, i)
+        go _ (losing.Lasts s e o) = (h, i)
+        go _ (losing.IsLost s u e o p) =
+            let r : Ending s t.here.server (subst (SessionIn Epochs t.here.server) e h.session) [] u =
+            each_lasts (Ended s) (λ os v. Ending s t.here.server (subst (SessionIn Epochs t.here.server) e h.session) os v)
+            (λ o os v x y z. ended s t.here.server (subst (SessionIn Epochs t.here.server) e h.session) o os v x y z) t.operations
+            (with_operations [] (losing.loss_noted t)) u p
+            (record { at = refl; kept = k.silent t.out _ tt h.kept; operations = λ o i. absurd i; left = h.operations }) in
+            (record { kept = r.kept; operations = r.operations; session = tt }, gone u.here)
+
+    pub lost_all : ((a : Association) → Is (cl.emptied a)) → (s : ClientState) → AllHold Both (client_turn s []) → AllHold Both (cl.losses (client_turn s []) now)
+    unfolding cl.losses
+    lost_all gone s h =
+        each Both Both (cl.lose now) (λ a b. b.0)
+        (λ t b w. let z = lose_holds gone t b.1 w in (z.0, (z.0.session, z.1))) (client_turn s []) h
+
+  -- What comes after them.
+  module _ (input : ClientInput) (lost : ClientTurn) (k : Keeps input lost) where
     -- those that are picked are answered, each for its cause
     picked_all : (a : AppAnswer) (Cause : Operation → Type 0) →
         ((out : List Output) (o : Operation) → IsKnown o × IsSentRight o → Cause o → P out → P (out ++ outputs.Answer o.op a ∷ [])) →
@@ -184,7 +272,7 @@ module _ (Known : ℕ → Ask → Type 0) (Cuts : Ask → Type 0) (cuts : (a : A
           where
             go : (b : Bool) → cs.is_asked t.here.server x ≡ b →
                 IsKnown (if b then cs.at_stage stages.Stuck x else x) × IsSentRight (if b then cs.at_stage stages.Stuck x else x)
-            go true e = (r.0, λ s. r.1 (asked_sent t.here.server x e))
+            go true e = (r.0, record { sent = λ s. r.1.sent (asked_sent t.here.server x e); unsent = λ s. cc s })
             go false e = r
 
     -- A message.
@@ -272,7 +360,7 @@ module _ (Known : ℕ → Ask → Type 0) (Cuts : Ask → Type 0) (cuts : (a : A
           let new : Epochs t.here.server header.epoch = told t.here.server n.received.from in
           each_answered (with_session (cr.in_epoch (trace.epoch_of header) s) t) (cs.is_asked t.here.server) (answers.Uncertain s.epoch.0 header.epoch)
           (λ out x r p. k.newer out t.here.server x s.epoch.0 header.epoch r.0 (and_true (cs.is_of t.here.server x) (cs.is_asked_at x.stage) p).0
-          (r.1 (asked_sent t.here.server x p)) (session_of t s n.session h) new less)
+          (r.1.sent (asked_sent t.here.server x p)) (session_of t s n.session h) new less)
           (with_other t (cr.in_epoch (trace.epoch_of header) s) new h)
       heard t _ _ e i (trace.IsCondemned b s n c) h = with_other t _ (session_of t s n.session h) h
       heard t _ _ e i (trace.IsGrantedLater ino g mode s w n o x) h =
@@ -293,55 +381,15 @@ module _ (Known : ℕ → Ask → Type 0) (Cuts : Ask → Type 0) (cuts : (a : A
       received : (t : Turn) → Is t.here → Holds t → Holds (cr.receive_at now header m.body t)
       received t i h = heard t m.body (cr.receive_at now header m.body t) refl i (receives now header t m.body) h
 
-    -- Losses.
-    module _ (s : ClientSession) (server : ServerId) (epoch : Epochs server s.epoch.0) where
-      record Ending (os : List Operation) (t : Turn) : Type 0 where
-        at : t.here.server ≡ server
-        kept : P t.out
-        operations : AllRight t.operations
-        left : AllRight os
-
-      ended : (o : Operation) (os : List Operation) (t u : Turn) → Ended s o t u → Ending (o ∷ os) t → Ending os u
-      ended o os t _ (losing.IsElsewhere e) h =
-          record { at = h.at; kept = h.kept; operations = one_more t.operations o (h.left o (inl refl)) h.operations; left = λ x i. h.left x (inr i) }
-      ended o os t _ (losing.IsUncertain e f) h =
-          let r = h.left o (inl refl) in
-          record {
-            at = h.at;
-            kept = k.uncertain t.out server o s.epoch.0 r.0 (subst (λ v. cs.is_of v o ≡ true) h.at e) (r.1 f) epoch h.kept;
-            operations = h.operations;
-            left = λ x i. h.left x (inr i);
-          }
-      ended o os t _ (losing.IsToldLost f e q a l) h =
-          record { at = h.at; kept = k.plain t.out o.op _ tt h.kept; operations = h.operations; left = λ x i. h.left x (inr i) }
-      ended o os t _ (losing.LostNothing f e q a l) h =
-          record { at = h.at; kept = k.plain t.out o.op _ tt h.kept; operations = h.operations; left = λ x i. h.left x (inr i) }
-      ended o os t _ (losing.IsQuiesced e q a) h =
-          record { at = h.at; kept = k.plain t.out o.op _ tt h.kept; operations = h.operations; left = λ x i. h.left x (inr i) }
-
-    lose_holds : (gone : (a : Association) → Is (cl.emptied a)) → (t : Turn) → Is t.here → Holds t → Holds (cl.lose now t) × Is (cl.lose now t).here
-    lose_holds gone t i h = go (cl.lose now t) (loses now t)
-      where
-        go : (u : Turn) → Loses now t u → Holds u × Is u.here
-        go _ (losing.HasNoSession e) = (h, i)
-        go _ (losing.Lasts s e o) = (h, i)
-        go _ (losing.IsLost s u e o p) =
-            let r : Ending s t.here.server (subst (SessionIn Epochs t.here.server) e h.session) [] u =
-            each_lasts (Ended s) (λ os v. Ending s t.here.server (subst (SessionIn Epochs t.here.server) e h.session) os v)
-            (λ o os v x y z. ended s t.here.server (subst (SessionIn Epochs t.here.server) e h.session) o os v x y z) t.operations
-            (with_operations [] (losing.loss_noted t)) u p
-            (record { at = refl; kept = k.silent t.out _ tt h.kept; operations = λ o i. absurd i; left = h.operations }) in
-            (record { kept = r.kept; operations = r.operations; session = tt }, gone u.here)
-
     -- An ask.
-    taken : (op : ℕ) (ask : Ask) → Known op ask → (t : Turn) → Holds t → Holds (only_at (server_of ask) (cl.take_ask op ask) t)
-    taken op ask e t h = at_server Holds (server_of ask) (cl.take_ask op ask) t (λ i. go (cl.take_ask op ask t) (takes op ask t)) (λ i. h)
+    taken : (op : ℕ) (ask : Ask) → input ≡ inputs.App op ask → Known op ask → (t : Turn) → Holds t → Holds (only_at (server_of ask) (cl.take_ask op ask) t)
+    taken op ask is e t h = at_server Holds (server_of ask) (cl.take_ask op ask) t (λ i. go (cl.take_ask op ask t) (takes op ask t)) (λ i. h)
       where
         waits : Holds (cs.keep (cs.new_operation op ask) t)
         waits =
             record {
               kept = h.kept;
-              operations = one_more t.operations (cs.new_operation op ask) (e, λ s. cc s) h.operations;
+              operations = one_more t.operations (cs.new_operation op ask) (e, record { sent = λ s. cc s; unsent = λ s. k.comes op ask is }) h.operations;
               session = h.session;
             }
 
@@ -417,7 +465,8 @@ module _ (Known : ℕ → Ask → Type 0) (Cuts : Ask → Type 0) (cuts : (a : A
             left = later o os t h;
           }
       operated all o os t _ (pass.IsHard f e q d) h = answers_one o os t _ h refl refl refl (k.plain t.out o.op _ tt h.kept)
-      operated all o os t _ (pass.IsQuiesced s own n there none unsent) h = answers_one o os t _ h refl refl refl (k.plain t.out o.op _ tt h.kept)
+      operated all o os t _ (pass.IsQuiesced s own n there none unsent) h =
+          let r = h.left o (inl refl) in answers_one o os t _ h refl refl refl (k.quiesced t.out o r.0 (r.1.unsent unsent) n h.kept)
       operated all o os t _ (pass.ChangesPage s f p bytes n v c m e) h =
           answers_one o os t _ h refl refl refl (k.plain (t.out ++ outputs.Note n ∷ []) o.op _ tt (k.silent t.out (outputs.Note n) tt h.kept))
       operated all o os t _ (pass.IsDirtyFull s f p bytes n v c m e) h = answers_one o os t _ h refl refl refl (k.plain t.out o.op _ tt h.kept)
@@ -459,7 +508,7 @@ module _ (Known : ℕ → Ask → Type 0) (Cuts : Ask → Type 0) (cuts : (a : A
 
     sent_right : (o : Operation) (b : Bool) → (b ≡ true → Cuts o.ask) → IsKnown o × IsSentRight o →
         IsKnown (cp.sent_if b o) × IsSentRight (cp.sent_if b o)
-    sent_right o true c r = (r.0, λ s. c refl)
+    sent_right o true c r = (r.0, record { sent = λ s. c refl; unsent = λ s. cc s })
     sent_right o false c r = r
 
     requested : (tick : Bool) (t u : Turn) → Requests now tick t u → Holds t → Holds u
@@ -490,7 +539,7 @@ module _ (Known : ℕ → Ask → Type 0) (Cuts : Ask → Type 0) (cuts : (a : A
     requested tick t _ (asking.KeepsAlive s f e) h =
         record { kept = k.silent t.out _ tt h.kept; operations = h.operations; session = subst (SessionIn Epochs t.here.server) f.may.session h.session }
 
-    passed : (tick : Bool) (t : Turn) → Holds t → Holds (cp.passes now tick t)
+    pub passed : (tick : Bool) (t : Turn) → Holds t → Holds (cp.passes now tick t)
     passed tick t h =
         let r = passes now tick t in
         let z : Passing t.here [] r.operated =
@@ -508,39 +557,10 @@ module _ (Known : ℕ → Ask → Type 0) (Cuts : Ask → Type 0) (cuts : (a : A
           session = subst (λ v. SessionIn Epochs v r.operated.here.session) (sym z.server) (subst (SessionIn Epochs t.here.server) (sym z.session) h.session);
         }))))
 
-    -- A rule at each server in turn.
-    module _ (Before After : Association → Type 0) (rule : Turn → Turn) (fine : (a : Association) → Before a → Fine a)
-        (one : (t : Turn) → Before t.here → Holds t → Holds (rule t) × After (rule t).here) where
-      these : (al : List Association) (t : ClientTurn) → ((a : Association) → Has a al → Before a) → AllHold After t → AllHold After (at_these rule al t)
-      unfolding at_these
-      these [] t b h = h
-      these (a ∷ al) t b h =
-          let z = one (enter t a) (b a (inl refl)) (record { kept = h.kept; operations = h.operations; session = fine a (b a (inl refl)) }) in
-          these al (leave t (rule (enter t a))) (λ x i. b x (inr i))
-          (record { kept = z.0.kept; operations = z.0.operations; each = λ x i. go x z.1 (has_append t.state.associations _ x i) })
-        where
-          go : (x : Association) → After (rule (enter t a)).here → Has x t.state.associations ⊎ Has x ((rule (enter t a)).here ∷ []) → After x
-          go x f (inl i) = h.each x i
-          go x f (inr (inl e)) = subst After (sym e) f
-          go x f (inr (inr i)) = absurd i
-
-      each : (t : ClientTurn) → AllHold Before t → AllHold After (at_each rule t)
-      unfolding at_each
-      each t h = these t.state.associations (with_associations [] t) h.each (record { kept = h.kept; operations = h.operations; each = λ a i. absurd i })
-
-    abbrev Both : Association → Type 0
-    Both a = Fine a × Is a
-
     only_fine : (t : ClientTurn) → AllHold Both t → AllHold Fine t
     only_fine t h = record { kept = h.kept; operations = h.operations; each = λ a i. (h.each a i).0 }
 
-    lost_all : ((a : Association) → Is (cl.emptied a)) → (s : ClientState) → AllHold Both (client_turn s []) → AllHold Both (cl.losses (client_turn s []) now)
-    unfolding cl.losses
-    lost_all gone s h =
-        each Both Both (cl.lose now) (λ a b. b.0)
-        (λ t b w. let z = lose_holds gone t b.1 w in (z.0, (z.0.session, z.1))) (client_turn s []) h
-
-    input_taken : (i : ClientInput) → input ≡ i → Tells Known Epochs i → AllHold Both lost → AllHold Fine (cl.take_input lost now i)
+    pub input_taken : (i : ClientInput) → input ≡ i → Tells Known Epochs i → AllHold Both lost → AllHold Fine (cl.take_input lost now i)
     unfolding cl.take_input cl.app cl.app_known cl.done cr.receive cr.receive_here
     input_taken inputs.Tick is f h = only_fine lost h
     input_taken (inputs.App op ask) is f h =
@@ -548,7 +568,7 @@ module _ (Known : ℕ → Ask → Type 0) (Cuts : Ask → Type 0) (cuts : (a : A
         (λ e. record { kept = k.full op ask is e h.kept; operations = h.operations; each = λ a i. (h.each a i).0 })
         (λ e. cond_either (AllHold Fine) (cl.is_configured lost.state (server_of ask)) (at_each (only_at (server_of ask) (cl.take_ask op ask)) lost)
         (cl.answered_at_once lost op answers.NoFile)
-        (λ c. each Both Fine (only_at (server_of ask) (cl.take_ask op ask)) (λ a b. b.0) (λ t b w. let z = taken op ask f t w in (z, z.session)) lost h)
+        (λ c. each Both Fine (only_at (server_of ask) (cl.take_ask op ask)) (λ a b. b.0) (λ t b w. let z = taken op ask is f t w in (z, z.session)) lost h)
         (λ c. record { kept = k.unknown op ask is c h.kept; operations = h.operations; each = λ a i. (h.each a i).0 }))
     input_taken (inputs.Control m) is f h =
         cond_either (AllHold Fine) (m.header.to == lost.state.id.0) (at_each (cr.receive_at now m.header m.body) lost) lost
@@ -557,16 +577,16 @@ module _ (Known : ℕ → Ask → Type 0) (Cuts : Ask → Type 0) (cuts : (a : A
     input_taken (inputs.Done number r) is f h =
         each Both Fine (cl.finish number r) (λ a b. b.0) (λ t b w. let z = finished number r is t b.1 w in (z, z.session)) lost h
 
-    after_input : (i : ClientInput) → input ≡ i → Tells Known Epochs i → AllHold Both lost → AllHold Fine (cl.work (cl.take_input lost now i) now i)
+    pub after_input : (i : ClientInput) → input ≡ i → Tells Known Epochs i → AllHold Both lost → AllHold Fine (cl.work (cl.take_input lost now i) now i)
     unfolding cl.work
     after_input i is f h =
         each Fine Fine (cp.passes now (cl.is_tick i)) (λ a b. b) (λ t b w. let z = passed (cl.is_tick i) t w in (z, z.session)) _ (input_taken i is f h)
 
   -- The whole step.
-  pub stepped : (s : ClientState) (input : ClientInput) → Keeps input (cl.losses (client_turn s []) now) → ((a : Association) → Is (cl.emptied a)) →
-      ((a : Association) → Has a s.associations → SessionIn Epochs a.server a.session × Is a) → AllRight s.operations → P [] →
-      Tells Known Epochs input → AllHold (λ a. SessionIn Epochs a.server a.session) (cl.client_step s now input)
+  pub stepped : (s : ClientState) (input : ClientInput) → KeepsLosses → Keeps input (cl.losses (client_turn s []) now) →
+      ((a : Association) → Is (cl.emptied a)) → ((a : Association) → Has a s.associations → SessionIn Epochs a.server a.session × Is a) →
+      AllRight s.operations → P [] → Tells Known Epochs input → AllHold (λ a. SessionIn Epochs a.server a.session) (cl.client_step s now input)
   unfolding cl.client_step
-  stepped s input k gone b r p f =
+  stepped s input l k gone b r p f =
       after_input input (cl.losses (client_turn s []) now) k input refl f
-      (lost_all input (cl.losses (client_turn s []) now) k gone s (record { kept = p; operations = r; each = b }))
+      (lost_all l gone s (record { kept = p; operations = r; each = b }))

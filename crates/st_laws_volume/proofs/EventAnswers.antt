@@ -40,7 +40,10 @@ use Rattle.st_rules.specs.Server as server
 use Rattle.st_rules.specs.Server.{ServerNode}
 use Rattle.st_rules.specs.World as world
 use Rattle.st_rules.specs.World.{World, WorldClient, clock_of, node_of, site_of}
+use Rattle.st_lemmas.proofs.Numbers.{numbered_own}
 use Rattle.st_lemmas.proofs.Steps.{step_happens}
+use Rattle.st_laws_pages.proofs.Lives.Lasting.{flush_parts}
+use Rattle.st_laws_pages.proofs.Lives.Turning.{says_lives}
 
 -- an answer to a client
 pub record Given : Type 0 where
@@ -167,14 +170,22 @@ pub data TakesAt (t : World) (e : Event) (c : ClientId) (site : WorldClient) : C
   ByReport : (k : ℕ) (ok : Bool) (x : IssuedCommand) (r : Option (Option (Tag × List ℕ))) → e ≡ events.Report k ok → world.issued_of t k ≡ Some x →
       x.client ≡ c → ev.is_same_instance x site ≡ true → (r ≡ None → ok ≡ false) → TakesAt t e c site (inputs.Done x.number r)
 
--- a step of a client, with what it answers and what it leaves of the client
+-- a step of a client, with its lines and what it answers
 pub record Stepping (t : World) (e : Event) (sc : WorldTurn) : Type 0 where
   pub client : ClientId
   pub site : WorldClient
   pub input : ClientInput
   pub now : Stamp
   pub at : site_of t client ≡ Some site
+  pub runs : site.node.running ≡ true
+  pub clock : now ≡ clock_of t (nodes.Client client)
   pub takes : TakesAt t e client site input
+  pub before : WorldTurn
+  pub unseen : before.seen ≡ []
+  pub says : sc.seen ≡ (ev.client_says_all client site.node.state (cl.client_step site.node.state now input).out before).seen
+  pub after : WorldClient
+  pub left : site_of sc.world client ≡ Some after
+  pub state_is : after.node.state ≡ (cl.client_step site.node.state now input).state
   pub gives : given_in_lines sc.seen ≡ given_by client (cl.client_step site.node.state now input).out
 
 pub data AnswersOf (t : World) (e : Event) (sc : WorldTurn) : Type 0 where
@@ -188,16 +199,33 @@ module _ (t : World) (e : Event) where
   abbrev w : World
   w = ev.counted t
 
-  takes : (v : World) (c : ClientId) (site new : WorldClient) (i : ClientInput) → site_of t c ≡ Some site → new.node ≡ site.node → TakesAt t e c site i →
-      A (ev.client_takes v c i new)
+  takes : (v : World) (c : ClientId) (site new : WorldClient) (i : ClientInput) → v.clients ≡ t.clients →
+      clock_of v (nodes.Client c) ≡ clock_of t (nodes.Client c) → site_of t c ≡ Some site → new.node ≡ site.node → TakesAt t e c site i → A (ev.client_takes v c i new)
   unfolding ev.client_takes ev.client_took cl.node_step
-  takes v c site new i at same z = go new.node.running
+  takes v c site new i alike clock at same z = go new.node.running refl
     where
       now : Stamp
       now = clock_of v (nodes.Client c)
 
-      go : (b : Bool) → A (ev.client_took v c new (if b then Ok (cl.node_turn new.node (cl.client_step new.node.state now i)) else Err Crashed))
-      go true =
+      first : WorldTurn
+      first = ev.quiet (ev.with_site c (ev.at_node (cl.node_turn new.node (cl.client_step new.node.state now i)).node new) v)
+
+      next : WorldClient
+      next = ev.at_node (cl.node_turn new.node (cl.client_step new.node.state now i)).node new
+
+      said : WorldTurn
+      said = ev.client_says_all c new.node.state (cl.client_step new.node.state now i).out first
+
+      left : site_of (ev.flushes c (cl.client_step new.node.state now i).state (world.all_servers said.world) said.world) c ≡ Some next
+      left =
+          ap (λ zs. world.numbered zs c.0)
+          ((flush_parts c (cl.client_step new.node.state now i).state (world.all_servers said.world) said.world).clients
+          ∙ (says_lives c new.node.state (cl.client_step new.node.state now i).out first).clients)
+          ∙ numbered_own v.clients c.0 next site (ap (λ zs. world.numbered zs c.0) alike ∙ at)
+
+      go : (b : Bool) → new.node.running ≡ b →
+          A (ev.client_took v c new (if b then Ok (cl.node_turn new.node (cl.client_step new.node.state now i)) else Err Crashed))
+      go true q =
           Steps
           (record {
             client = c;
@@ -205,20 +233,26 @@ module _ (t : World) (e : Event) where
             input = i;
             now = now;
             at = at;
+            runs = ap (λ (y : cl.ClientNode). y.running) (sym same) ∙ q;
+            clock = clock;
             takes = z;
+            before = first;
+            unseen = refl;
+            says = ap (λ (y : cl.ClientNode). (ev.client_says_all c y.state (cl.client_step y.state now i).out first).seen) same;
+            after = next;
+            left = left;
+            state_is = ap (λ (y : cl.ClientNode). (cl.client_step y.state now i).state) same;
             gives =
-                (all_give c new.node.state (cl.client_step new.node.state now i).out
-                (ev.quiet (ev.with_site c (ev.at_node (cl.node_turn new.node (cl.client_step new.node.state now i)).node new) v))).is
+                (all_give c new.node.state (cl.client_step new.node.state now i).out first).is
                 ∙ ap (λ (y : cl.ClientNode). given_by c (cl.client_step y.state now i).out) same;
           })
-      go false = GivesNone refl
+      go false q = GivesNone refl
 
-  by_client : (v : World) (c : ClientId) (i : ClientInput) → ((site : WorldClient) → site_of t c ≡ Some site → TakesAt t e c site i) →
-      (o : Option WorldClient) →
-      site_of t c ≡ o → A (ev.at_client v c i o)
+  by_client : (v : World) (c : ClientId) (i : ClientInput) → v.clients ≡ t.clients → clock_of v (nodes.Client c) ≡ clock_of t (nodes.Client c) →
+      ((site : WorldClient) → site_of t c ≡ Some site → TakesAt t e c site i) → (o : Option WorldClient) → site_of t c ≡ o → A (ev.at_client v c i o)
   unfolding ev.at_client
-  by_client v c i z None at = GivesNone refl
-  by_client v c i z (Some site) at = takes v c site site i at refl (z site at)
+  by_client v c i a k z None at = GivesNone refl
+  by_client v c i a k z (Some site) at = takes v c site site i a k at refl (z site at)
 
   by_server : (s : ServerId) (i : ServerInput) (o : Option ServerNode) → A (ev.at_server w s i o)
   unfolding ev.at_server ev.server_takes ev.server_took
@@ -232,7 +266,7 @@ module _ (t : World) (e : Event) where
   asks : (c : ClientId) (ask : Ask) → e ≡ events.App c ask → (o : Option WorldClient) → site_of t c ≡ o → A (ev.asks_at w c ask o)
   unfolding ev.asks_at
   asks c ask i None at = GivesNone refl
-  asks c ask i (Some site) at = takes w c site (ev.asked_once_more site) (inputs.App (site.asks + 1) ask) at refl (ByAsk ask i)
+  asks c ask i (Some site) at = takes w c site (ev.asked_once_more site) (inputs.App (site.asks + 1) ask) refl refl at refl (ByAsk ask i)
 
   delivered : (k : ℕ) → e ≡ events.Deliver k → (o : Option SentMessage) → world.message_of t k ≡ o → A (ev.delivers w o)
   unfolding ev.delivers ev.delivers_to
@@ -240,7 +274,7 @@ module _ (t : World) (e : Event) where
   delivered k i (Some m) q = to (world.receiver_of m) refl
     where
       to : (n : NodeId) → world.receiver_of m ≡ n → A (ev.delivers_to w m.message n)
-      to (nodes.Client c) r = by_client w c (inputs.Control m.message) (λ site at. ByMessage k m i q r) (site_of t c) refl
+      to (nodes.Client c) r = by_client w c (inputs.Control m.message) refl refl (λ site at. ByMessage k m i q r) (site_of t c) refl
       to (nodes.Server s) r = by_server s (serving.Control m.message) (node_of t s)
 
   reported : (k : ℕ) (ok : Bool) → e ≡ events.Report k ok → A (ev.reports_of w k ok)
@@ -257,7 +291,7 @@ module _ (t : World) (e : Event) where
       same : (x : IssuedCommand) → world.issued_of t k ≡ Some x → (site : WorldClient) → site_of t x.client ≡ Some site → (b : Bool) →
           ev.is_same_instance x site ≡ b → A (if b then ev.client_takes v x.client (ev.end_told v k ok x) site else ev.quiet v)
       same x q site at true r =
-          takes v x.client site site (ev.end_told v k ok x) at refl
+          takes v x.client site site (ev.end_told v k ok x) refl refl at refl
           (ByReport k ok x (ev.result_of ok (disks.sample v.disks k)) i q refl r (failed ok (disks.sample v.disks k)))
       same x q site at false r = GivesNone refl
 
@@ -279,7 +313,7 @@ module _ (t : World) (e : Event) where
   happens = by e refl
     where
       by : (f : Event) → e ≡ f → A (ev.happens w f)
-      by (events.Tick (nodes.Client c)) i = by_client w c inputs.Tick (λ site at. ByTick i) (site_of t c) refl
+      by (events.Tick (nodes.Client c)) i = by_client w c inputs.Tick refl refl (λ site at. ByTick i) (site_of t c) refl
       by (events.Tick (nodes.Server s)) i = by_server s serving.Tick (node_of t s)
       by (events.App c ask) i = asks c ask i (site_of t c) refl
       by (events.Deliver k) i = delivered k i (world.message_of t k) refl

@@ -1,11 +1,12 @@
 -- The lives of entries and of the writes that carry them: those of a client at one server never fall along the log.
 use Rattle.st_lemmas.proofs.Words
 use Words.{◌≡◌, ◌≤◌, ◌⊎◌, ℕ, zero, suc, ◌&&◌, ◌==◌, Bool, true, false, List, [], ◌∷◌, Option, Some, None, refl, sym, ap, ◌∙◌, subst, inl, inr, arith}
-use Words.{find, length, map, slice_get, eq-eqb, eqb-true, ClientId, ServerId, Life, LogEntry, LogOwner, LeaseLife}
+use Words.{find, leb-true, length, map, option_map, slice_get, eq-eqb, eqb-true, ClientId, ServerId, Life, Stamp, LogEntry, LogOwner, LeaseLife}
 use Words.fates
 use Words.nodes
 use Words.Client as cl
-use Words.ClientState.{Association, is_at}
+use Words.ClientLease as lease
+use Words.ClientState.{Association, ClientSession, is_at}
 use Words.Events as ev
 use Words.Events.{is_change, present_life}
 use Words.FlatLog as log
@@ -19,6 +20,7 @@ use Words.Truth.{clash, none_not_some}
 use Words.World as world
 use Words.World.{World, WorldClient, clock_of, ended_of, end_or_present, site_of}
 use Rattle.st_rules.specs.ClientLease.{end_at}
+use Rattle.st_laws_steps.specs.Client.Losses.{is_ended}
 use Rattle.st_laws_steps.specs.Lives.Lives.{IsKnown, LivesHold, owner_of}
 use Rattle.st_laws_pages.specs.Disks.Obligations.{FatesHold}
 use Rattle.st_laws_pages.specs.Fates.Fates.{BeforeEnd, PendingAll}
@@ -107,6 +109,32 @@ module _ (w : World) (h : FatesHold w) (e : LogEntry) (i : Has e w.log) (p : e.f
   at_site : ended_of w e.of.client s e.of.life ≡ None → (y : Option WorldClient) → site_of w e.of.client ≡ y → PresentOf w e.of
   at_site none None there = absurd (none_not_some before.end (sym (ap (end_or_present w e.of.client s) none ∙ ap (world.present_end w s) there) ∙ before.is))
   at_site none (Some site) there = at_place site there none (find (is_at s) site.node.state.associations) refl
+
+  -- the lease of its life is not over
+  pub lasts : (site : WorldClient) → site_of w e.of.client ≡ Some site → (a : Association) → find (is_at s) site.node.state.associations ≡ Some a →
+      is_ended site.node.state.config (clock_of w (nodes.Client e.of.client)) a.session ≡ true → ⊥
+  lasts site there a place over = by (ended_of w e.of.client s e.of.life) refl
+    where
+      at : (x : Option ClientSession) → a.session ≡ x → ended_of w e.of.client s e.of.life ≡ None → ⊥
+      at None q none = no (sym (ap (is_ended site.node.state.config (clock_of w (nodes.Client e.of.client))) q) ∙ over)
+        where
+          no : false ≡ true → ⊥
+          no z = cc
+      at (Some x) q none =
+          let end : lease.end_of site.node.state.config x.lease ≡ before.end =
+          some_is
+          (ap (λ o. end_at site.node.state.config (option_map cl.lease_of_session o)) (sym q)
+          ∙ (ap (λ y. end_at site.node.state.config (cl.lease_at y)) (sym place)
+          ∙ (ap (world.present_end w s) (sym there) ∙ (ap (end_or_present w e.of.client s) (sym none) ∙ before.is)))) in
+          let late =
+          leb-true (lease.end_of site.node.state.config x.lease).0 (clock_of w (nodes.Client e.of.client)).0
+          (sym (ap (is_ended site.node.state.config (clock_of w (nodes.Client e.of.client))) q) ∙ over) in
+          let early = before.before in
+          let same = ap (λ (k : Stamp). k.0) end in omega (arith, late, early, same)
+
+      by : (o : Option LeaseLife) → ended_of w e.of.client s e.of.life ≡ o → ⊥
+      by None none = at a.session refl none
+      by (Some r) q = ended r q
 
   pub present : PresentOf w e.of
   present = go (ended_of w e.of.client s e.of.life) refl

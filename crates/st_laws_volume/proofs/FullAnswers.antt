@@ -57,7 +57,7 @@ use Rattle.st_laws_volume.proofs.AskSteps.{asked_once, asked_tells}
 use Rattle.st_laws_volume.proofs.AsksTaken.{AllFew, event_few, fresh_few}
 use Rattle.st_laws_volume.proofs.Carried.{IsGiven, given_in}
 use Rattle.st_laws_volume.proofs.ChangeLines.{on_both}
-use Rattle.st_laws_volume.proofs.ClientAnswers.{IsPlain, IsSilent, Keeps, Refuses, stepped}
+use Rattle.st_laws_volume.proofs.ClientAnswers.{IsPlain, IsSilent, Keeps, KeepsLosses, Refuses, stepped}
 use Rattle.st_laws_volume.proofs.ClientAnswers as walk
 use Rattle.st_laws_volume.proofs.EventAnswers.{AnswersOf, GivesNone, Given, Steps, TakesAt, ByAsk, ByMessage, ByReport, ByTick, event_answers, given_by, given_in_lines, given_last, of_output}
 use Rattle.st_laws_volume.proofs.Logs.{LogHolds, log_begins, log_kept}
@@ -226,14 +226,30 @@ module _ (n : ℕ) (c : ClientId) where
     abbrev There : Association → Type 0
     There a = Unit {0}
 
-    keeps : Keeps Any All (λ a e. tt) Some_epoch There First now input lost
-    keeps =
+    abbrev Free_number : ℕ → Type 0
+    Free_number op = Unit {0}
+
+    silent_first : (out : List Output) (o : Output) → IsSilent o → First out → First (out ++ o ∷ [])
+    silent_first out o e h =
+        subst (FullFirst c input (length s.operations))
+        (sym (given_last c out o ∙ (ap (λ gs. given_by c out ++ gs) (silent_none c o e) ∙ append-nil (given_by c out)))) h
+
+    losses : KeepsLosses Any Free_number All (λ a e. tt) Some_epoch There First now
+    losses =
         record {
-          silent =
-              λ out o e h. subst (FullFirst c input (length s.operations))
-              (sym (given_last c out o ∙ (ap (λ gs. given_by c out ++ gs) (silent_none c o e) ∙ append-nil (given_by c out)))) h;
+          silent = silent_first;
           plain = λ out op a e h. one_first out op a (plain_free a e) h;
           uncertain = λ out v o e a b d f h. one_first out o.op (answers.Uncertain e 0) refl h;
+          quiesced = λ out o e u h. one_first out o.op answers.Quiesced refl h;
+        }
+
+    keeps : Keeps Any Free_number All (λ a e. tt) Some_epoch There First now input lost
+    keeps =
+        record {
+          comes = λ op ask i. tt;
+          silent = silent_first;
+          plain = λ out op a e h. one_first out op a (plain_free a e) h;
+          quiesced = λ out o e u n h. one_first out o.op answers.Quiesced refl h;
           newer = λ out v o e m a b d f g l h. one_first out o.op (answers.Uncertain e m) refl h;
           full = λ op ask i f h. at_first op ask i f;
           unknown = λ op ask i f h. one_first lost.out op answers.NoFile refl h;
@@ -256,7 +272,8 @@ module _ (n : ℕ) (c : ClientId) where
 
     full_first : FullFirst c input (length s.operations) (given_by c (cl.client_step s now input).out)
     full_first =
-        (stepped Any All (λ a e. tt) Some_epoch There First now s input keeps (λ a. tt) (λ a i. (any_session a, tt)) (λ o i. (tt, λ e. tt)) (IsFree [] tt)
+        (stepped Any Free_number All (λ a e. tt) Some_epoch There First now s input losses keeps (λ a. tt) (λ a i. (any_session a, tt))
+        (λ o i. (tt, record { sent = λ e. tt; unsent = λ e. tt })) (IsFree [] tt)
         (any_tells input)).kept
 
 -- Lines without such an answer.

@@ -42,6 +42,7 @@ use Rattle.st_laws_pages.specs.Disks.Runs.{PagesAfter}
 use Rattle.st_laws_pages.proofs.Asks.Law.{dull_fates, places_law}
 use Rattle.st_laws_pages.proofs.Asks.Says.{AllDull, server_dull}
 use Rattle.st_laws_pages.proofs.Asks.World.{asks_more, asks_of}
+use Rattle.st_laws_pages.proofs.Causes.HardSeen.{told_both}
 use Rattle.st_laws_pages.proofs.Disks.Whole.{fates_law}
 use Rattle.st_laws_volume.specs.Asks.{HasAsksOf, in_volume}
 use Rattle.st_laws_volume.specs.FateMarks.{is_crashed_life}
@@ -49,7 +50,7 @@ use Rattle.st_laws_volume.specs.Logs.{InEveryRun, IsLogOf, IsSame, ask_of as ask
 use Rattle.st_laws_volume.specs.LossMarks.{AreMet, IsLate, IsMet}
 use Rattle.st_laws_volume.specs.Options.{OnSome}
 use Rattle.st_laws_volume.specs.Seen.{cause_of, of_event, of_line}
-use Rattle.st_laws_volume.specs.StepKinds.{AreTaken, StepsAreTaken, is_hard_answer}
+use Rattle.st_laws_volume.specs.StepKinds.{AreTaken, AtEachStep, StepsAreTaken, is_hard_answer}
 use Rattle.st_laws_volume.specs.Witness.{Behind, Witness, before_line, begun, if_told, led_by, next_op, of_delivery, of_lines, of_message, steps_of, to_node, volume_after}
 use Rattle.st_laws_volume.proofs.AnswerSteps.{OnlyAnswers, delivery_silent, event_silent, is_silent, none_answered, open_there}
 use Rattle.st_laws_volume.proofs.AskedAsks.{AreOf, Asked, IsOf, all_has, asked_after, event_right, moved, run_right}
@@ -74,10 +75,11 @@ use Rattle.st_laws_volume.proofs.LossesMet as losses
 use Rattle.st_laws_volume.proofs.LossesMet.{MetHold, met_begins, met_kept}
 use Rattle.st_laws_volume.proofs.LossLines.{LateAt, MetAt, RowsAt, block_met, first_at, is_loss_of}
 use Rattle.st_laws_volume.proofs.LossShapes.{Part, is_unhard}
-use Rattle.st_laws_volume.proofs.OpenAnswers.{Open, block, block_open, first_open, open_left}
+use Rattle.st_laws_volume.proofs.OpenAnswers.{Open, at_both, block, block_open, first_open, open_left}
 use Rattle.st_laws_volume.proofs.Options.{on_all, on_if, on_more, on_then}
 use Rattle.st_laws_volume.proofs.ReadPages.{throughout_both}
 use Rattle.st_laws_volume.proofs.StepKinds.{both_inside, delivery_inside, lines_inside}
+use Rattle.st_laws_volume.proofs.SyncsSettled.{IsOn, all_settled}
 use Rattle.st_laws_volume.proofs.SyncsWait.{AllWait, kept_wait, other_wait, waits}
 use Rattle.st_laws_volume.proofs.ToldSteps.{Near, Told, effect_near, event_kept, kept_told, step_told}
 use Rattle.st_volume.specs.declared.step.VolumeStep.{VolumeStep}
@@ -102,11 +104,6 @@ hard_taken u c op told there hard =
         ap is_some (if_true (answers_so u a answers.Hard a.result) (Some (volume.closed a (volume.after_answer u a answers.Hard))) None
         (ap (answers_so u a answers.Hard) z.0 ∙ z.1))
 
--- by the places of its entries
-all_at : {A : Type 0} (p : A → Bool) (xs : List A) → ((n : ℕ) (x : A) → slice_get xs n ≡ Some x → p x ≡ true) → list_all p xs ≡ true
-all_at p [] h = refl
-all_at p (x ∷ xs) h = and_both (p x) (list_all p xs) (h 0 x refl) (all_at p xs (λ n y q. h (suc n) y q))
-
 -- what was lost is told before
 lost_before : (c : ClientId) (op : ℕ) (q : Observation → Bool) (first rest done more : List Observation) →
     done ++ seen.Answered c op answers.Hard ∷ more ≡ first ++ rest → list_all is_unhard first ≡ true → list_any q first ≡ true → list_any q done ≡ true
@@ -130,7 +127,7 @@ lost_before c op q (y ∷ first) rest (z ∷ done) more e u l =
     go false i r l = r (ap (λ k. k || list_any q first) i ∙ l)
 
 -- lines that tell no fates only add entries
-still_there : (f : World) (os : List LogEntry) (xs : List Observation) → list_all tells_none xs ≡ true → (n : ℕ) (o : LogEntry) → slice_get os n ≡ Some o →
+pub still_there : (f : World) (os : List LogEntry) (xs : List Observation) → list_all tells_none xs ≡ true → (n : ℕ) (o : LogEntry) → slice_get os n ≡ Some o →
     slice_get (lines.log_told f os xs) n ≡ Some o
 unfolding lines.log_told lines.log_behind log.accept log.patch log.cut
 still_there f os [] q n o i = i
@@ -146,7 +143,7 @@ still_there f os (x ∷ xs) q n o i =
     one x t = i
 
 -- Lines that answer nothing hold no answer.
-dull_silent : (w : World) (os : List Observation) → AllDull os → list_all is_silent (of_lines w os) ≡ true
+pub dull_silent : (w : World) (os : List Observation) → AllDull os → list_all is_silent (of_lines w os) ≡ true
 unfolding of_lines before_line of_line
 dull_silent w [] d = refl
 dull_silent w (seen.Wrote i c f p bytes ∷ os) d = absurd d.one
@@ -273,25 +270,8 @@ module _ (past : List Step) (t : Traced) (e : Event) (sc : WorldTurn) (happened 
         go (Some (asks.Cut f p)) q h k = cc h
         go (Some (asks.Name s ask)) q h k = cc h
 
-    -- an entry of the client and the file
-    record IsOn (o : LogEntry) : Type 0 where
-      change : is_change o ≡ true
-      client : c ≡ o.of.client
-      file : sync.file ≡ o.of.file
-
-    is_on_it : (o : LogEntry) (f : Entry) → IsSame o f → is_by_on c sync.file f ≡ true → IsOn o
-    is_on_it o f k q =
-        let b = and_true (is_by c f) (is_on sync.file f.what) q in
-        let z = at_file o.change (sym (ap (is_on sync.file) k.what) ∙ b.1) in
-        record { change = z.0; client = client_is c f.client b.0 ∙ k.client z.0; file = z.1 }
-      where
-        at_file : (ch : Change) → is_on sync.file (ask_at o.of.file o.of.page ch) ≡ true → (changes_page ch ≡ true) × (sync.file ≡ o.of.file)
-        at_file (changes.Write bytes) z = (refl, file_is sync.file o.of.file z)
-        at_file (changes.Patch at bytes) z = (refl, file_is sync.file o.of.file z)
-        at_file changes.Cut z = cc z
-
     -- it isn't pending in its client's present life
-    unpending : (n : ℕ) (o : LogEntry) → slice_get es n ≡ Some o → IsOn o → o.fate ≡ fates.Pending →
+    unpending : (n : ℕ) (o : LogEntry) → slice_get es n ≡ Some o → IsOn c sync.file o → o.fate ≡ fates.Pending →
         o.of.life ≡ present_life sc.world o.of.client o.of.file.server → ⊥
     unpending n o i k p life =
         clash
@@ -299,7 +279,7 @@ module _ (past : List Step) (t : Traced) (e : Event) (sc : WorldTurn) (happened 
         (ap (λ b. not b || ev.is_hard_fate o.fate) of_it ∙ ap ev.is_hard_fate p)
       where
         server : sync.file.server ≡ o.of.file.server
-        server = ap (λ (f : FileId). f.server) k.file
+        server = ap (λ (f : FileId). f.server) k.its_file
 
         life_is : present_life sc.world c sync.file.server ≡ o.of.life
         life_is = ap (λ d. present_life sc.world d sync.file.server) k.client ∙ (ap (present_life sc.world o.of.client) server ∙ sym life)
@@ -316,7 +296,7 @@ module _ (past : List Step) (t : Traced) (e : Event) (sc : WorldTurn) (happened 
             (eq-eqb o.of.life.0 (present_life sc.world c sync.file.server).0 (ap (λ (d : Life). d.0) (sym life_is)))))
             (and_both (same_server o.of.file.server sync.file.server) (o.of.file.ino == sync.file.ino)
             (eq-eqb o.of.file.server.0 sync.file.server.0 (ap (λ (d : ServerId). d.0) (sym server)))
-            (eq-eqb o.of.file.ino sync.file.ino (ap (λ (f : FileId). f.ino) (sym k.file))))
+            (eq-eqb o.of.file.ino sync.file.ino (ap (λ (f : FileId). f.ino) (sym k.its_file))))
 
     -- of an earlier life no crash ended it is not pending either
     no_crash : (c2 : ClientId) → e ≡ events.Crash (nodes.Client c2) → ⊥
@@ -325,8 +305,8 @@ module _ (past : List Step) (t : Traced) (e : Event) (sc : WorldTurn) (happened 
         no : true ≡ false → ⊥
         no z = cc
 
-    pending_crashed : (n : ℕ) (o : LogEntry) (f : Entry) → slice_get es n ≡ Some o → slice_get u.log n ≡ Some f → IsOn o → o.fate ≡ fates.Pending →
-        f.crashed ≡ true
+    pending_crashed : (n : ℕ) (o : LogEntry) (f : Entry) → slice_get es n ≡ Some o → slice_get u.log n ≡ Some f → IsOn c sync.file o →
+        o.fate ≡ fates.Pending → f.crashed ≡ true
     pending_crashed n o f i j k p = by (fresh n o i k.change)
       where
         by : (slice_get w.log n ≡ Some o) ⊎ (o.of.life ≡ present_life sc.world o.of.client o.of.file.server) → f.crashed ≡ true
@@ -358,7 +338,7 @@ module _ (past : List Step) (t : Traced) (e : Event) (sc : WorldTurn) (happened 
                     p q
 
     -- what is gone of it was told
-    late_never : (o : LogEntry) → IsOn o → LateAt past x' done o.of → ⊥
+    late_never : (o : LogEntry) → IsOn c sync.file o → LateAt past x' done o.of → ⊥
     late_never o k l =
         by (event_part w c (λ d site there. (held.failures.stand.stand.fates.lives.lives.sites d site there).fit) e (step_happens w e sc happened).0
         (no_crash c))
@@ -375,66 +355,6 @@ module _ (past : List Step) (t : Traced) (e : Event) (sc : WorldTurn) (happened 
             (seen_is ∙ (ap (λ (y : WorldTurn). y.seen) (step_happens w e sc happened).1 ∙ z.is)) z.unhard
             (z.losses o.of (sym k.client) l.0)))
             l.1
-
-    owed_never : (o : LogEntry) → IsOn o → list_any (is_lost_of o.of.file.ino o.of.page) (RowsAt past x' done o.of.client o.of.file.server) ≡ true → ⊥
-    owed_never o k q =
-        go (some_member_passes (is_lost_of o.of.file.ino o.of.page) (RowsAt past x' done o.of.client o.of.file.server) q)
-      where
-        rows_is : RowsAt past x' done o.of.client o.of.file.server ≡ RowsAt past x' done c sync.file.server
-        rows_is = ap (λ d. RowsAt past x' done d o.of.file.server) (sym k.client) ∙ ap (λ (f : FileId). RowsAt past x' done c f.server) (sym k.file)
-
-        go : (z : LostPage) × Has z (RowsAt past x' done o.of.client o.of.file.server) × (is_lost_of o.of.file.ino o.of.page z ≡ true) → ⊥
-        go (z, i, b) =
-            clash
-            (some_passes (is_of_file sync.file.ino) (RowsAt past x' done c sync.file.server) z (subst (Has z) rows_is i)
-            (ap (λ (f : FileId). z.ino == f.ino) k.file ∙ (and_true (z.ino == o.of.file.ino) (z.page.0 == o.of.page.0) b).0))
-            sync.none
-
-    settled_by : (o : LogEntry) (f : Entry) → IsSame o f → (fate : Fate) → o.fate ≡ fate → (log.is_pending fate ≡ true → f.crashed ≡ true) →
-        (log.counts fate ≡ false → (f.crashed ≡ true) ⊎ (f.told ≡ true)) → is_settled f ≡ true
-    settled_by o f k fates.Hard q p g =
-        or_right f.crashed _ (ap (λ z. not (is_open z || (is_dropped z && not f.told))) (k.fate ∙ ap fate_of q))
-    settled_by o f k fates.Pending q p g = or_left f.crashed _ (p refl)
-    settled_by o f k (fates.Gone cause) q p g = go (g refl)
-      where
-        go : (f.crashed ≡ true) ⊎ (f.told ≡ true) → is_settled f ≡ true
-        go (inl z) = or_left f.crashed _ z
-        go (inr z) =
-            or_right f.crashed _
-            (ap (λ y. not (is_open y || (is_dropped y && not f.told))) (k.fate ∙ ap fate_of q)
-            ∙ ap (λ y. not (false || (true && not y))) z)
-
-    entry_settled : (n : ℕ) (f : Entry) → slice_get u.log n ≡ Some f → (is_settled f || not (is_by_on c sync.file f)) ≡ true
-    entry_settled n f j = go (is_by_on c sync.file f) refl
-      where
-        here : (o : LogEntry) × (slice_get es n ≡ Some o)
-        here = get_there es n (let l = get_below u.log n f j in let m = s.told.lines in let k = s.lined in omega (arith, l, m, k))
-
-        y : (z : Entry) × (slice_get u.log n ≡ Some z) × IsSame here.0 z
-        y = first_at es u.log s.told.first n here.0 here.1
-
-        same : IsSame here.0 f
-        same = subst (IsSame here.0) (some_is (sym y.1 ∙ j)) y.2
-
-        gone : IsOn here.0 → IsMet (RowsAt past x' done) (LateAt past x' done) here.0.of f → (f.crashed ≡ true) ⊎ (f.told ≡ true)
-        gone k (inl z) = inl z
-        gone k (inr (inl z)) = inr z
-        gone k (inr (inr (inl z))) = absurd (owed_never here.0 k z)
-        gone k (inr (inr (inr z))) = absurd (late_never here.0 k z)
-
-        go : (b : Bool) → is_by_on c sync.file f ≡ b → (is_settled f || not b) ≡ true
-        go false q = or_right (is_settled f) true refl
-        go true q =
-            let k = is_on_it here.0 f same q in
-            or_left (is_settled f) false
-            (settled_by here.0 f same here.0.fate refl
-            (λ p. pending_crashed n here.0 f here.1 j k (pending_is here.0.fate p))
-            (λ g. gone k (s.met_ n here.0 f here.1 j k.change g)))
-          where
-            pending_is : (z : Fate) → log.is_pending z ≡ true → z ≡ fates.Pending
-            pending_is fates.Pending z = refl
-            pending_is fates.Hard z = cc z
-            pending_is (fates.Gone d) z = cc z
 
     -- the ask itself
     ask_settled : (b : Pending) → find (is_ask c op) u.pending ≡ Some b → (b.result ≡ None) × (is_hard u b ≡ true)
@@ -468,7 +388,8 @@ module _ (past : List Step) (t : Traced) (e : Event) (sc : WorldTurn) (happened 
         all =
             subst (λ ask. list_all (λ (f : Entry). is_settled f || not (is_by_on b.client (volume.file_of ask) f)) u.log ≡ true) (sym words)
             (subst (λ d. list_all (λ (f : Entry). is_settled f || not (is_by_on d sync.file f)) u.log ≡ true) (sym client)
-            (all_at (λ (f : Entry). is_settled f || not (is_by_on c sync.file f)) u.log entry_settled))
+            (all_settled past x' done es u s.told.first (let m = s.told.lines in let k = s.lined in omega (arith, m, k)) s.met_ c sync.file sync.none
+            pending_crashed late_never))
 
     pub hard_is_taken : is_some (volume.step u (kinds.Answered c op answers.Hard)) ≡ true
     hard_is_taken = hard_taken u c op s.lined (open_there c op u ((s.open_ c).0 (eqb_self c.0))) ask_settled
@@ -508,7 +429,7 @@ module _ (past : List Step) (t : Traced) (e : Event) (sc : WorldTurn) (happened 
       go (inl j) = h n o j c
       go (inr j) = inr (subst (λ (k : LogEntry). is_change k ≡ true → k.of.life ≡ present_life sc.world k.of.client k.of.file.server) (sym j.1) new c)
 
-  block_fresh : (es : List LogEntry) (o : Observation) → tells_none o ≡ true → Fresh es → Fresh (lines.log_behind sc.world es o)
+  pub block_fresh : (es : List LogEntry) (o : Observation) → tells_none o ≡ true → Fresh es → Fresh (lines.log_behind sc.world es o)
   unfolding lines.log_behind log.accept log.patch log.cut
   block_fresh es (seen.Wrote i c f p bytes) t h = one_fresh es _ (λ k. refl) h
   block_fresh es (seen.Patched i c f p at bytes) t h = one_fresh es _ (λ k. refl) h
@@ -517,7 +438,7 @@ module _ (past : List Step) (t : Traced) (e : Event) (sc : WorldTurn) (happened 
   block_fresh es (seen.Dropped i cause) t h = cc t
   block_fresh es o t h = h
 
-  block_state : (done : List Observation) (o : Observation) (os : List Observation) (es : List LogEntry) (u : Volume) → tells_none o ≡ true →
+  pub block_state : (done : List Observation) (o : Observation) (os : List Observation) (es : List LogEntry) (u : Volume) → tells_none o ≡ true →
       IsLossTold past x' done o →
       State done (o ∷ os) es u → OnSome (State (done ++ o ∷ []) os (lines.log_behind sc.world es o)) (run (block w o os) u)
   block_state done o os es u t l s =
@@ -587,16 +508,18 @@ module _ (past : List Step) (t : Traced) (e : Event) (sc : WorldTurn) (happened 
       (λ z k. lines_taken (done ++ o ∷ []) os (lines.log_behind sc.world es o) z (append_assoc done (o ∷ []) os ∙ q) b.1 l.1 h.1 (block_fresh es o b.0 f) g k)
       (run (block w o os) u) (block_state done o os es u b.0 l.0 s)))
 
-  -- All steps of the event, if it delivers no message to a server.
-  pub unserved : of_delivery it.behind v w e ≡ [] → AreLossesTold past x' [] sc.seen → AtEach (safety.IsHardAt past x') sc.world w.log sc.seen →
-      ((c : ClientId) → AllOpenFor w c sc.seen (told_all c (of_event w e) (in_volume v c))) →
-      AreTaken is_hard_answer (of_event w e ++ of_lines w sc.seen) v
+  -- What holds before the lines, if the event delivers no message to a server.
+  abbrev first : List VolumeStep
+  first = of_event w e
+
+  silent : list_all tells_none sc.seen ≡ true
+  silent = ap (λ (z : WorldTurn). list_all tells_none z.seen) (step_happens w e sc happened).1 ∙ quiet.event_silent (counted w) e calm
+
+  state_begins : of_delivery it.behind v w e ≡ [] → ((c : ClientId) → AllOpenFor w c sc.seen (told_all c (of_event w e) (in_volume v c))) →
+      OnSome (State [] sc.seen w.log) (run first v)
   unfolding run
-  unserved none l h open_all =
-      taken_both is_hard_answer first (of_lines w sc.seen) v (none_answered is_hard_answer only_hard first v (event_silent w e))
-      (on_more (State [] sc.seen w.log) (AreTaken is_hard_answer (of_lines w sc.seen))
-      (λ y k. lines_taken [] sc.seen w.log y refl silent l h (λ n o i c. inl i) whole.entries k) (run first v)
-      (on_more (λ y. (IsTold w.log y × (AreOf as_ y × MetAt past x' [] w.log y)) × (AllWait y × (LogKept ⊥ v y × (Told y × Open w sc.seen y))))
+  state_begins none open_all =
+      on_more (λ y. (IsTold w.log y × (AreOf as_ y × MetAt past x' [] w.log y)) × (AllWait y × (LogKept ⊥ v y × (Told y × Open w sc.seen y))))
       (State [] sc.seen w.log)
       (λ y k. record {
         told = k.0.0;
@@ -615,13 +538,41 @@ module _ (past : List Step) (t : Traced) (e : Event) (sc : WorldTurn) (happened 
       (losses.before_lines past t e sc happened it held.failures.stand v a r marked met))
       (on_both AllWait (λ y. LogKept ⊥ v y × (Told y × Open w sc.seen y)) (run first v) (kept_wait as_ first v (event_kept w e) wait)
       (on_both (LogKept ⊥ v) (λ y. Told y × Open w sc.seen y) (run first v) (run_keeps ⊥ first v (λ z. absurd z))
-      (on_both Told (Open w sc.seen) (run first v) (kept_told first v (event_kept w e) a.lines) (first_open w e sc.seen v open_all)))))))
-    where
-      first : List VolumeStep
-      first = of_event w e
+      (on_both Told (Open w sc.seen) (run first v) (kept_told first v (event_kept w e) a.lines) (first_open w e sc.seen v open_all)))))
 
-      silent : list_all tells_none sc.seen ≡ true
-      silent = ap (λ (z : WorldTurn). list_all tells_none z.seen) (step_happens w e sc happened).1 ∙ quiet.event_silent (counted w) e calm
+  -- All steps of such an event.
+  pub unserved : of_delivery it.behind v w e ≡ [] → AreLossesTold past x' [] sc.seen → AtEach (safety.IsHardAt past x') sc.world w.log sc.seen →
+      ((c : ClientId) → AllOpenFor w c sc.seen (told_all c (of_event w e) (in_volume v c))) →
+      AreTaken is_hard_answer (of_event w e ++ of_lines w sc.seen) v
+  unserved none l h open_all =
+      taken_both is_hard_answer first (of_lines w sc.seen) v (none_answered is_hard_answer only_hard first v (event_silent w e))
+      (on_more (State [] sc.seen w.log) (AreTaken is_hard_answer (of_lines w sc.seen))
+      (λ y k. lines_taken [] sc.seen w.log y refl silent l h (λ n o i c. inl i) whole.entries k) (run first v) (state_begins none open_all))
+
+  -- A fact of each line, by what holds there.
+  module _ (fact : VolumeStep → Volume → Type 0)
+      (one : (done : List Observation) (o : Observation) (os : List Observation) (es : List LogEntry) (u : Volume) → done ++ o ∷ os ≡ sc.seen →
+      lines.log_told sc.world w.log done ≡ es → IsLossTold past x' done o → State done (o ∷ os) es u → AtEachStep fact (block w o os) u) where
+    lines_each : (done os : List Observation) (es : List LogEntry) (u : Volume) → done ++ os ≡ sc.seen → list_all tells_none os ≡ true →
+        AreLossesTold past x' done os → lines.log_told sc.world w.log done ≡ es → State done os es u → AtEachStep fact (of_lines w os) u
+    unfolding of_lines AtEachStep AreLossesTold lines.log_told
+    lines_each done [] es u q m l g s = tt
+    lines_each done (o ∷ os) es u q m l g s =
+        let b = and_true (tells_none o) (list_all tells_none os) m in
+        subst (λ its. AtEachStep fact its u) (append_assoc (before_line o os) (of_line w o) (of_lines w os))
+        (at_both fact (block w o os) (of_lines w os) u (one done o os es u q g l.0 s)
+        (on_more (State (done ++ o ∷ []) os (lines.log_behind sc.world es o)) (AtEachStep fact (of_lines w os))
+        (λ z k. lines_each (done ++ o ∷ []) os (lines.log_behind sc.world es o) z (append_assoc done (o ∷ []) os ∙ q) b.1 l.1
+        (told_both sc.world w.log done (o ∷ []) ∙ ap (λ xs. lines.log_behind sc.world xs o) g) k)
+        (run (block w o os) u) (block_state done o os es u b.0 l.0 s)))
+
+    pub each_line : of_delivery it.behind v w e ≡ [] → AreLossesTold past x' [] sc.seen →
+        ((c : ClientId) → AllOpenFor w c sc.seen (told_all c (of_event w e) (in_volume v c))) →
+        OnSome (AtEachStep fact (of_lines w sc.seen)) (run (of_event w e) v)
+    unfolding lines.log_told
+    each_line none l open_all =
+        on_more (State [] sc.seen w.log) (AtEachStep fact (of_lines w sc.seen)) (λ y k. lines_each [] sc.seen w.log y refl silent l refl k) (run first v)
+        (state_begins none open_all)
 
 -- Steps that answer nothing.
 silent_both : (xs ys : List VolumeStep) → list_all is_silent xs ≡ true → list_all is_silent ys ≡ true → list_all is_silent (xs ++ ys) ≡ true
@@ -669,7 +620,7 @@ abbrev Known : Promise
 Known past x = losses.Known past x × ((FatesHold x.after.world × PlacesHold x.after.world) × HardIsHard past x)
 
 -- syncs wait after each event
-after_wait : (it : Witness) (past : List Step) (x : Step) (o : Option Volume) → OnSome (AreOf (asks_of past)) o → OnSome AllWait o →
+pub after_wait : (it : Witness) (past : List Step) (x : Step) (o : Option Volume) → OnSome (AreOf (asks_of past)) o → OnSome AllWait o →
     OnSome AllWait (volume_after it x o)
 after_wait it past x None r h = tt
 after_wait it past x (Some v) r h =

@@ -45,6 +45,7 @@ pub mod LogSteps
 pub mod Logs
 pub mod LossEvents
 pub mod LossLines
+pub mod LossOrder
 pub mod LossRows
 pub mod LossShapes
 pub mod LossesMet
@@ -54,6 +55,7 @@ pub mod OpenAnswers
 pub mod OpenResults
 pub mod Options
 pub mod Parts
+pub mod QuietAnswers
 pub mod ReadAnswers
 pub mod ReadContents
 pub mod ReadPages
@@ -64,9 +66,11 @@ pub mod Shown
 pub mod Start
 pub mod StepKinds
 pub mod SyncFaults
+pub mod SyncsSettled
 pub mod SyncsWait
 pub mod RequestAsks
 pub mod RequestResults
+pub mod ResultsAtAnswers
 pub mod ResultsStay
 pub mod ServedEnds
 pub mod ServedRequests

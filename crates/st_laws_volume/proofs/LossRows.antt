@@ -63,11 +63,11 @@ has_ordered (n ∷ ks) k (inl e) = subst (λ z. Has k (among z (in_order ks))) e
 has_ordered (n ∷ ks) k (inr h) = among_old n (in_order ks) k (has_ordered ks k h)
 
 -- A row of a page.
-record RowOf (ino : ℕ) (p : PageNo) (r : LostPage) : Type 0 where
-  ino_is : r.ino ≡ ino
-  page_is : r.page ≡ p
+pub record RowOf (ino : ℕ) (p : PageNo) (r : LostPage) : Type 0 where
+  pub ino_is : r.ino ≡ ino
+  pub page_is : r.page ≡ p
 
-row_of : (ino : ℕ) (p : PageNo) (r : LostPage) → is_lost_of ino p r ≡ true → RowOf ino p r
+pub row_of : (ino : ℕ) (p : PageNo) (r : LostPage) → is_lost_of ino p r ≡ true → RowOf ino p r
 row_of ino p r q =
     let b = and_true (r.ino == ino) (r.page.0 == p.0) q in
     record { ino_is = eqb-true r.ino ino b.0; page_is = ap (λ n. record { 0 = n }) (eqb-true r.page.0 p.0 b.1) }
@@ -77,7 +77,7 @@ row_is ino p r h =
     and_both (r.ino == ino) (r.page.0 == p.0) (eq-eqb r.ino ino h.ino_is) (eq-eqb r.page.0 p.0 (ap (λ (q : PageNo). q.0) h.page_is))
 
 -- a row of the page that is in a file's list
-listed : (rows : List LostPage) (ino : ℕ) (p : PageNo) (r : LostPage) → Has r rows → RowOf ino p r →
+pub listed : (rows : List LostPage) (ino : ℕ) (p : PageNo) (r : LostPage) → Has r rows → RowOf ino p r →
     (x : LostPage) × Has x (rows_of_file rows ino) × RowOf ino p x
 unfolding rows_of_file
 listed rows ino p r h k = go (row_of_page rows ino p.0) refl

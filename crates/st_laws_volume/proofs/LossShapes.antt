@@ -50,7 +50,7 @@ these_unhard now (a ∷ al) t =
     since_then Unhard t.out (cl.lose now (enter t a)).out (at_these (cl.lose now) al (leave t (cl.lose now (enter t a)))).out
     (unhard_kept_by_lose now (enter t a)) (these_unhard now al (leave t (cl.lose now (enter t a))))
 
-losses_unhard : (now : Stamp) (s : ClientState) → EachOut Unhard (cl.losses (client_turn s []) now).out
+pub losses_unhard : (now : Stamp) (s : ClientState) → EachOut Unhard (cl.losses (client_turn s []) now).out
 unfolding cl.losses at_each
 losses_unhard now s = let z = these_unhard now s.associations (with_associations [] (client_turn s [])) in subst (EachOut Unhard) (sym z.out) z.each
 
@@ -92,7 +92,7 @@ row_there c s now (x ∷ al) a (inr h) e = go (is_ended s.config now x.session) 
     go true r = inr r
     go false r = r
 
-losses_told : (c : ClientId) (s : ClientState) (now : Stamp) → ((a : Association) → Has a s.associations → Fit a) → (a : Association) → Has a s.associations →
+pub losses_told : (c : ClientId) (s : ClientState) (now : Stamp) → ((a : Association) → Has a s.associations → Fit a) → (a : Association) → Has a s.associations →
     is_ended s.config now a.session ≡ true → (v : Life) × Has (outputs.Note (notes.Lost a.server v)) (cl.losses (client_turn s []) now).out
 unfolding ended_rows
 losses_told c s now fit a h e =
@@ -149,14 +149,14 @@ record LinesOf (c : ClientId) (o : Output) (old new : List Observation) : Type 0
   unhard : Unhard o → list_all is_unhard more ≡ true
   loss : (s : ServerId) (v : Life) → o ≡ outputs.Note (notes.Lost s v) → list_any (is_loss_of c s) more ≡ true
 
-none_more : (os : List Observation) → os ≡ os ++ []
+pub none_more : (os : List Observation) → os ≡ os ++ []
 none_more [] = refl
 none_more (o ∷ os) = ap (λ xs. o ∷ xs) (none_more os)
 
 self_client : (c : ClientId) → same_client c c ≡ true
 self_client c = eq-eqb c.0 c.0 refl
 
-its_loss : (c : ClientId) (s t : ServerId) (v : Life) → t ≡ s → list_any (is_loss_of c s) (seen.Lost c t v ∷ []) ≡ true
+pub its_loss : (c : ClientId) (s t : ServerId) (v : Life) → t ≡ s → list_any (is_loss_of c s) (seen.Lost c t v ∷ []) ≡ true
 its_loss c s t v e =
     or_left (same_client c c && same_server t s) false
     (and_both (same_client c c) (same_server t s) (self_client c) (eq-eqb t.0 s.0 (ap (λ (z : ServerId). z.0) e)))
@@ -237,7 +237,7 @@ outputs_lines c before (o ∷ os) sc = both (outputs_lines c before os (ev.clien
       loss = λ s v h. loss b s v h;
     }
 
-says_both : (c : ClientId) (before : ClientState) (os ps : List Output) (sc : WorldTurn) →
+pub says_both : (c : ClientId) (before : ClientState) (os ps : List Output) (sc : WorldTurn) →
     ev.client_says_all c before (os ++ ps) sc ≡ ev.client_says_all c before ps (ev.client_says_all c before os sc)
 unfolding ev.client_says_all
 says_both c before [] ps sc = refl

@@ -98,7 +98,7 @@ module _ (S : ClientId → ℕ → Type 0) where
   acts_fine o v (kinds.ReadFailed c s number) q h = failing_fine o c number (is_read_of s) v h
   acts_fine o v (kinds.Joined i c what) q h = tt
 
-  step_fine : (o : Closing) (v : Volume) (it : VolumeStep) → is_kept it ≡ true → AllFine o v → OnSome (AllFine o) (volume.step v it)
+  pub step_fine : (o : Closing) (v : Volume) (it : VolumeStep) → is_kept it ≡ true → AllFine o v → OnSome (AllFine o) (volume.step v it)
   step_fine o v (kinds.Joined i c what) q h = on_if (AllFine o) _ (Some (record v { lines = i })) h
   step_fine o v (kinds.TakesEffect c op) q h = cc q
   step_fine o v (kinds.Asked c ask) q h = on_if (AllFine o) (v.lines == length v.log) (acts v (kinds.Asked c ask)) (acts_fine o v (kinds.Asked c ask) q h)
@@ -163,10 +163,10 @@ module _ (S : ClientId → ℕ → Type 0) where
             (effect v a.client a.ask) (effect_keeps v a.client a.ask)))
 
   -- the one of a line is answered next
-  change_fine : (v : Volume) (c : ClientId) (op : ℕ) → AllFine None v → OnSome (AllFine (Some (c, op))) (volume.step v (kinds.TakesEffect c op))
+  pub change_fine : (v : Volume) (c : ClientId) (op : ℕ) → AllFine None v → OnSome (AllFine (Some (c, op))) (volume.step v (kinds.TakesEffect c op))
   change_fine v c op h = effect_fine (Some (c, op)) v c op (λ b e. inr e) h
 
-  answer_fine : (v : Volume) (c : ClientId) (op : ℕ) (answer : AppAnswer) → AllFine (Some (c, op)) v →
+  pub answer_fine : (v : Volume) (c : ClientId) (op : ℕ) (answer : AppAnswer) → AllFine (Some (c, op)) v →
       OnSome (AllFine None) (volume.step v (kinds.Answered c op answer))
   answer_fine v c op answer h =
       on_if (AllFine None) (v.lines == length v.log) (acts v (kinds.Answered c op answer))

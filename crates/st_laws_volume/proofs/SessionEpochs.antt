@@ -30,7 +30,7 @@ use Rattle.st_laws_leases.proofs.Dates.Receiving as receiving
 use Rattle.st_laws_requests.specs.Replies.ServedRequests.{InputNew, ReassertionsNew}
 use Rattle.st_laws_requests.proofs.Replies.EachEvent.{ClientTook, Comes, NodeAfter, ServerLeft, ServerTook, SiteAfter, event_leaves}
 use Rattle.st_laws_requests.proofs.Replies.Served.{Served, served}
-use Rattle.st_laws_volume.proofs.ClientAnswers.{AllHold, Keeps, SessionIn, Tells, stepped}
+use Rattle.st_laws_volume.proofs.ClientAnswers.{AllHold, Keeps, KeepsLosses, SessionIn, Tells, stepped}
 
 -- an epoch of a server
 abbrev pub Within : World → ServerId → ℕ → Type 0
@@ -106,12 +106,25 @@ module _ (w : World) (s : ClientState) (now : Stamp) (input : ClientInput) where
   abbrev P : List Output → Type 0
   P out = Unit {0}
 
-  keeps : Keeps Any Cuts (λ a e. e) (Within w) There P now input (cl.losses (client_turn s []) now)
-  keeps =
+  abbrev Free : ℕ → Type 0
+  Free op = Unit {0}
+
+  losses : KeepsLosses Any Free Cuts (λ a e. e) (Within w) There P now
+  losses =
       record {
         silent = λ out o e h. tt;
         plain = λ out op a e h. tt;
         uncertain = λ out v o e a b d f h. tt;
+        quiesced = λ out o e u h. tt;
+      }
+
+  keeps : Keeps Any Free Cuts (λ a e. e) (Within w) There P now input (cl.losses (client_turn s []) now)
+  keeps =
+      record {
+        comes = λ op ask i. tt;
+        silent = λ out o e h. tt;
+        plain = λ out op a e h. tt;
+        quiesced = λ out o e u n h. tt;
         newer = λ out v o e m a b d f g l h. tt;
         full = λ op ask i f h. tt;
         unknown = λ op ask i f h. tt;
@@ -121,9 +134,10 @@ module _ (w : World) (s : ClientState) (now : Stamp) (input : ClientInput) where
 
   pub client_right : ClientRight w s → Tells Any (Within w) input → ClientRight w (cl.client_step s now input).state
   client_right h f =
-      let z : AllHold Any Cuts (λ a e. e) (Within w) There P now (λ a. SessionIn (Within w) a.server a.session) (cl.client_step s now input) =
-      stepped Any Cuts (λ a e. e) (Within w) There P now s input keeps (λ a. tt) (λ a i. (h.sessions a i, tt)) (λ o i. (tt, h.sent o i)) tt f in
-      record { sessions = z.each; sent = λ o i. (z.operations o i).1 }
+      let z : AllHold Any Free Cuts (λ a e. e) (Within w) There P now (λ a. SessionIn (Within w) a.server a.session) (cl.client_step s now input) =
+      stepped Any Free Cuts (λ a e. e) (Within w) There P now s input losses keeps (λ a. tt) (λ a i. (h.sessions a i, tt))
+      (λ o i. (tt, record { sent = h.sent o i; unsent = λ e. tt })) tt f in
+      record { sessions = z.each; sent = λ o i. (z.operations o i).1.sent }
 
 -- A client that crashed, or started, has no session and no operation.
 none_right : {A : Type 0} (w : World) (f : A → Association) (s : ClientState) (as_ : List A) → ((a : A) → (f a).session ≡ None) →

@@ -1,7 +1,7 @@
 -- In every run a request that a server serves finds no result: the ask that it belongs to has not taken effect yet.
 use Rattle.st_lemmas.proofs.Words
 use Words.{◌≡◌, ◌⊎◌, ℕ, ◌+◌, arith, Bool, true, false, ◌&&◌, ◌==◌, List, [], ◌∷◌, ◌++◌, length, Option, Some, None, Ok, refl, sym, ap, ◌∙◌, subst, inl, inr, if◌then◌else◌}
-use Words.{eqb-true, find, is_some, option_and_then, option_map, AppAnswer, ClientId, Event, Message, NodeId, Observation, SentMessage, ServerId}
+use Words.{eqb-true, find, is_some, list_all, option_and_then, option_map, AppAnswer, ClientId, Event, Message, NodeId, Observation, SentMessage, ServerId}
 use Words.events
 use Words.nodes
 use Words.ClientState.{asks_cut_or_name}
@@ -12,12 +12,13 @@ use Words.Lists.{Has}
 use Words.Lookups.{some_is}
 use Words.Members.{has_left}
 use Words.Numbers.{numbered_has}
-use Words.Safety.{AsksAreAnsweredOnce, Promise, Step, all_answered_once, all_followed, is_event, step, steps}
+use Words.Safety.{AsksAreAnsweredOnce, IsHead, Promise, Step, Throughout, all_answered_once, all_followed, is_event, step, steps}
 use Words.Server as sv
 use Words.Server.{ServerNode, sender}
 use Words.Tables.{and_true, found_at, has_map_in}
 use Words.Truth.{client_is, clash}
 use Words.World.{World, fresh_world, message_of, node_of, receiver_of}
+use Rattle.st_base.specs.declared.config.Config.{Config}
 use Rattle.st_protocol.specs.Assoc as net
 use Rattle.st_promises.specs.Safe.{EveryRunIsSafe, IsSafeRun}
 use Rattle.st_laws_pages.specs.Disks.Obligations.{FatesHold}
@@ -55,14 +56,14 @@ use Rattle.st_volume.specs.Volume as volume
 use Rattle.st_volume.specs.Volume.{Pending, Volume, is_ask, run}
 
 -- The request of an operation was served: no server serves its key again.
-record WasServed (past : List Step) (w : World) (c : ClientId) (op : ℕ) : Type 0 where
-  k : Asked past w c op
-  over : (m : Message) → Keyed c k.server k.life_ k.epoch_ k.number_ m → AllPast w c k.server m
+pub record WasServed (past : List Step) (w : World) (c : ClientId) (op : ℕ) : Type 0 where
+  pub k : Asked past w c op
+  pub over : (m : Message) → Keyed c k.server k.life_ k.epoch_ k.number_ m → AllPast w c k.server m
 
-record NoneHold (k : net.Config) (count : ℕ) (past : List Step) (t : Traced) (it : Witness) : Type 0 where
-  facts : FactsHold k count past t
-  ghost_ : GhostHolds past t it
-  fine : OnSome (AllFine (WasServed past t.world) None) it.volume
+pub record NoneHold (k : net.Config) (count : ℕ) (past : List Step) (t : Traced) (it : Witness) : Type 0 where
+  pub facts : FactsHold k count past t
+  pub ghost_ : GhostHolds past t it
+  pub fine : OnSome (AllFine (WasServed past t.world) None) it.volume
 
 none_seen : (w : World) (j : ℕ) → of_event w (events.Deliver j) ≡ []
 unfolding of_event
@@ -323,13 +324,13 @@ module _ (k : net.Config) (count : ℕ) (past : List Step) (t : Traced) (e : Eve
       all (events.Start d) q = plain (ap (of_delivery it.behind v w) q)
 
 -- In every run.
-abbrev Known : ℕ → Promise
+abbrev pub Known : ℕ → Promise
 Known count past x = InRange count past x × (AsksAreAnsweredOnce past x × (FatesHold x.after.world × KeysHaveOneOperation past x))
 
-NoneToo : List Step → Step → Witness → Type 0
+pub NoneToo : List Step → Step → Witness → Type 0
 NoneToo past x it = OnSome (λ v. OfDelivery (FindsNone it v) x.before.world x.event) it.volume
 
-none_on : (k : net.Config) (count : ℕ) → IsGiven (Known count) (NoneHold k count) NoneToo
+pub none_on : (k : net.Config) (count : ℕ) → IsGiven (Known count) (NoneHold k count) NoneToo
 unfolding NoneToo led_by
 none_on k count past t e sc it f g h = (
   on_more (AllFine (WasServed past t.world) None) (λ v. OfDelivery (FindsNone it v) t.world e)
@@ -346,20 +347,34 @@ none_on k count past t e sc it f g h = (
     n : FactsHold k count (past ++ step t e sc ∷ []) (traced_after e t sc)
     n = facts_on k count past t e sc g.0 h.facts f
 
+pub none_begins : (k : Config) (clients servers disks blocks form : ℕ) → IsHead k clients servers disks blocks form →
+    NoneHold (terms_of k) (clients + servers) [] (traced (fresh_world k clients servers disks blocks form))
+    (begun (fresh_world k clients servers disks blocks form) (fresh_world k clients servers disks blocks form))
+unfolding begun
+none_begins k clients servers disks blocks form head =
+    record {
+      facts = facts_begin k clients servers disks blocks form head;
+      ghost_ = ghost_begins k clients servers disks blocks form;
+      fine = λ a i. absurd i;
+    }
+
+pub known_in : (k : Config) (clients servers disks blocks form : ℕ) (es : List Event) → IsHead k clients servers disks blocks form →
+    list_all (is_event (clients + servers)) es ≡ true → IsSafeRun (fresh_world k clients servers disks blocks form) es →
+    Throughout (Known (clients + servers)) [] (steps es (traced (fresh_world k clients servers disks blocks form)))
+known_in k clients servers disks blocks form es head events kept =
+    let t : Traced = traced (fresh_world k clients servers disks blocks form) in
+    let count : ℕ = clients + servers in
+    throughout_both (InRange count) (λ past x. AsksAreAnsweredOnce past x × (FatesHold x.after.world × KeysHaveOneOperation past x)) [] (steps es t)
+    (all_in_range count es [] t events)
+    (throughout_both AsksAreAnsweredOnce (λ past x. FatesHold x.after.world × KeysHaveOneOperation past x) [] (steps es t) kept.once
+    (throughout_both (λ past x. FatesHold x.after.world) KeysHaveOneOperation [] (steps es t) (fates_law k clients servers disks blocks form es)
+    (operations_law k clients servers disks blocks form es head events)))
+
 pub requests_find_none : EveryRunIsSafe → InEveryRun RequestsFindNone
 unfolding NoneToo begun
 requests_find_none safe k clients servers disks blocks form es head events =
     let t : Traced = traced (fresh_world k clients servers disks blocks form) in
     let count : ℕ = clients + servers in
     let kept : IsSafeRun (fresh_world k clients servers disks blocks form) es = safe k clients servers disks blocks form es head events in
-    given_in (Known count) (NoneHold (terms_of k) count) NoneToo (none_on (terms_of k) count) es t
-    (record {
-      facts = facts_begin k clients servers disks blocks form head;
-      ghost_ = ghost_begins k clients servers disks blocks form;
-      fine = λ a i. absurd i;
-    })
-    (throughout_both (InRange count) (λ past x. AsksAreAnsweredOnce past x × (FatesHold x.after.world × KeysHaveOneOperation past x)) [] (steps es t)
-    (all_in_range count es [] t events)
-    (throughout_both AsksAreAnsweredOnce (λ past x. FatesHold x.after.world × KeysHaveOneOperation past x) [] (steps es t) kept.once
-    (throughout_both (λ past x. FatesHold x.after.world) KeysHaveOneOperation [] (steps es t) (fates_law k clients servers disks blocks form es)
-    (operations_law k clients servers disks blocks form es head events))))
+    given_in (Known count) (NoneHold (terms_of k) count) NoneToo (none_on (terms_of k) count) es t (none_begins k clients servers disks blocks form head)
+    (known_in k clients servers disks blocks form es head events kept)

@@ -18,6 +18,11 @@ abbrev pub is_uncertain : VolumeStep → Bool
 is_uncertain (kinds.Answered c op (answers.Uncertain old new)) = true
 is_uncertain it = false
 
+-- nothing more is done for the ask before the lease is over
+abbrev pub is_quiesced : VolumeStep → Bool
+is_quiesced (kinds.Answered c op answers.Quiesced) = true
+is_quiesced it = false
+
 -- An answer other than `written` goes to a cut, to an ask for a name, or to an ask that has no result.
 abbrev pub ResultFits : VolumeStep → Volume → Type 0
 ResultFits (kinds.Answered c op answers.Written) v = ⊤

@@ -3,7 +3,7 @@
 //! volume has taken the steps" don't say that it takes them.
 #![tactic(auto)]
 
-ghost use Rattle.st_laws_volume.specs.AnswerKinds.{FilesAreAnsweredWithoutResults, SyncFaultsAreTaken, is_opsfull, is_uncertain};
+ghost use Rattle.st_laws_volume.specs.AnswerKinds.{FilesAreAnsweredWithoutResults, SyncFaultsAreTaken, is_opsfull, is_quiesced, is_uncertain};
 ghost use Rattle.st_laws_volume.specs.AskedAsks.{AsksAreAsAsked};
 ghost use Rattle.st_laws_volume.specs.Asks.{AsksAgree};
 ghost use Rattle.st_laws_volume.specs.Effects.{ChangesFindTheirFiles, ChangesTakeEffect, MappedFilesExist};
@@ -220,6 +220,13 @@ pub fn opsfull_answers_are_taken()
 /// server.
 pub fn uncertain_answers_are_taken()
     ensures { InEveryRun (StepsAreTaken is_uncertain) }
+{}
+
+/// In every run the volume takes each answer `quiesced`, if it has taken all steps before it: it
+/// goes to an ask that has no result, and if that is a sync, each write and patch of its file by
+/// this client is hard, or was dropped and its client was told, or the client crashed since.
+pub fn quiesced_answers_are_taken()
+    ensures { InEveryRun (StepsAreTaken is_quiesced) }
 {}
 
 /// In every run each answer other than `written` goes to a cut, to an ask for a name, or to an ask
