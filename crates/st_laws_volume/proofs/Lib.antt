@@ -18,6 +18,7 @@ pub mod CutEffects
 pub mod CutLines
 pub mod CutNotes
 pub mod CutsTold
+pub mod DirtyAfterHard
 pub mod EntriesTold
 pub mod EpochSteps
 pub mod Epochs
@@ -37,6 +38,7 @@ pub mod FatesTaken
 pub mod FewAsks
 pub mod FullAnswers
 pub mod HardAnswers
+pub mod HardFiles
 pub mod KeptResults
 pub mod LineOrder
 pub mod LogEntries
@@ -49,6 +51,8 @@ pub mod LossOrder
 pub mod LossRows
 pub mod LossShapes
 pub mod LossesMet
+pub mod LostAnswers
+pub mod LostRows
 pub mod MappedFiles
 pub mod Notices
 pub mod OpenAnswers

@@ -1,12 +1,14 @@
 -- Kinds of answers: the steps of the volume that give them.
-use Rattle.std.specs.Prelude.{◌≡◌, Bool, true, false, Some, find, is_some, ⊤}
+use Rattle.std.specs.Prelude.{◌≡◌, Bool, true, false, ◌&&◌, ◌||◌, not, nat_le, nat_lt, List, Some, find, is_some, length, ⊤}
+use Rattle.std.specs.List.{list_any}
+use Rattle.st_base.specs.declared.rows.LostRow.{LostRow}
 use Rattle.st_messages.specs.declared.answer.AppAnswer.TheVariants as answers
 use Rattle.st_rules.specs.Safety.{Promise}
 use Rattle.st_laws_volume.specs.Results.{may_have_result}
 use Rattle.st_laws_volume.specs.StepKinds.{AtEachStepOf}
 use Rattle.st_volume.specs.declared.step.VolumeStep.{VolumeStep}
 use Rattle.st_volume.specs.declared.step.VolumeStep.TheVariants as kinds
-use Rattle.st_volume.specs.Volume.{Pending, Volume, is_ask, is_sync, step}
+use Rattle.st_volume.specs.Volume.{Pending, Volume, are_rising, file_of, is_ask, is_left, is_sync, step}
 
 -- more asks of the client are open than may be
 abbrev pub is_opsfull : VolumeStep → Bool
@@ -42,3 +44,18 @@ SyncFaultIsTaken it v = ⊤
 -- Sync faults are taken: at each answer, if the volume has taken all steps before it.
 abbrev pub SyncFaultsAreTaken : Promise
 SyncFaultsAreTaken = AtEachStepOf SyncFaultIsTaken
+
+-- A sync that has no result is answered `lost` with at least one row; the rows rise by page; and unless they are 1,024, no dropped entry of the file is left of
+-- which the client was not told.
+abbrev pub is_told_whole : Volume → Pending → List LostRow → Bool
+is_told_whole v a rows =
+    (is_sync a.ask && not (is_some a.result))
+    && ((nat_lt 0 (length rows) && are_rising rows) && (nat_le 1024 (length rows) || not (list_any (is_left a.client (file_of a.ask) rows) v.log)))
+
+abbrev pub LossIsToldWhole : VolumeStep → Volume → Type 0
+LossIsToldWhole (kinds.Answered c op (answers.Lost rows)) v = (a : Pending) → find (is_ask c op) v.pending ≡ Some a → is_told_whole v a rows ≡ true
+LossIsToldWhole it v = ⊤
+
+-- Losses are told whole: at each answer, if the volume has taken all steps before it.
+abbrev pub LossesAreToldWhole : Promise
+LossesAreToldWhole = AtEachStepOf LossIsToldWhole

@@ -3,13 +3,14 @@
 //! volume has taken the steps" don't say that it takes them.
 #![tactic(auto)]
 
-ghost use Rattle.st_laws_volume.specs.AnswerKinds.{FilesAreAnsweredWithoutResults, SyncFaultsAreTaken, is_opsfull, is_quiesced, is_uncertain};
+ghost use Rattle.st_laws_volume.specs.AnswerKinds.{FilesAreAnsweredWithoutResults, LossesAreToldWhole, SyncFaultsAreTaken, is_opsfull, is_quiesced, is_uncertain};
 ghost use Rattle.st_laws_volume.specs.AskedAsks.{AsksAreAsAsked};
 ghost use Rattle.st_laws_volume.specs.Asks.{AsksAgree};
 ghost use Rattle.st_laws_volume.specs.Effects.{ChangesFindTheirFiles, ChangesTakeEffect, MappedFilesExist};
 ghost use Rattle.st_laws_volume.specs.Epochs.{EpochsAgree};
 ghost use Rattle.st_laws_volume.specs.FateMarks.{CrashesAreMarked, FailedWritesAreRemembered};
 ghost use Rattle.st_laws_volume.specs.Fates.{StillEventsAreTaken};
+ghost use Rattle.st_laws_volume.specs.HardFiles.{HardFilesAreClean};
 ghost use Rattle.st_laws_volume.specs.StepKinds.{AnswersAreToOpenAsks, EntriesAreTold, KindsAreEnough, StepsAreTaken, is_ask, is_change_line, is_failed_write, is_fate, is_free, is_hard_answer, is_line, is_written};
 ghost use Rattle.st_laws_volume.specs.Laws.{RunsInParts, StepsShowTheEvent, TheStartAgrees};
 ghost use Rattle.st_laws_volume.specs.Logs.{InEveryRun, LogsAgree};
@@ -227,6 +228,19 @@ pub fn uncertain_answers_are_taken()
 /// this client is hard, or was dropped and its client was told, or the client crashed since.
 pub fn quiesced_answers_are_taken()
     ensures { InEveryRun (StepsAreTaken is_quiesced) }
+{}
+
+/// In every run each answer `lost` goes to a sync that has no result, tells at least one row, and
+/// its rows rise by page, if the volume has taken all steps before it. Unless they are 1,024, no
+/// dropped entry of the file by this client is left of which it was not told.
+pub fn losses_are_told_whole()
+    ensures { InEveryRun LossesAreToldWhole }
+{}
+
+/// In every run, if a sync is answered `hard`, each page of its file that is dirty after that event
+/// was changed after the answer.
+pub fn hard_files_are_clean()
+    ensures { InEveryRun HardFilesAreClean }
 {}
 
 /// In every run each answer other than `written` goes to a cut, to an ask for a name, or to an ask
