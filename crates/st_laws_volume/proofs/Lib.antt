@@ -14,11 +14,14 @@ pub mod ChangeEffects
 pub mod ChangeFiles
 pub mod ChangeLines
 pub mod ClientAnswers
+pub mod CommandBlocks
+pub mod CommandServers
 pub mod CutEffects
 pub mod CutLines
 pub mod CutNotes
 pub mod CutsTold
 pub mod DirtyAfterHard
+pub mod DiskFaults
 pub mod EntriesTold
 pub mod EpochSteps
 pub mod Epochs
@@ -69,7 +72,6 @@ pub mod SessionEpochs
 pub mod Shown
 pub mod Start
 pub mod StepKinds
-pub mod SyncFaults
 pub mod SyncsSettled
 pub mod SyncsWait
 pub mod RequestAsks

@@ -8,7 +8,7 @@ use Rattle.st_laws_volume.specs.Results.{may_have_result}
 use Rattle.st_laws_volume.specs.StepKinds.{AtEachStepOf}
 use Rattle.st_volume.specs.declared.step.VolumeStep.{VolumeStep}
 use Rattle.st_volume.specs.declared.step.VolumeStep.TheVariants as kinds
-use Rattle.st_volume.specs.Volume.{Pending, Volume, are_rising, file_of, is_ask, is_left, is_sync, step}
+use Rattle.st_volume.specs.Volume.{Pending, Volume, are_rising, file_of, is_ask, is_left, is_sync}
 
 -- more asks of the client are open than may be
 abbrev pub is_opsfull : VolumeStep → Bool
@@ -25,6 +25,11 @@ abbrev pub is_quiesced : VolumeStep → Bool
 is_quiesced (kinds.Answered c op answers.Quiesced) = true
 is_quiesced it = false
 
+-- a command of the client failed
+abbrev pub is_disk_fault : VolumeStep → Bool
+is_disk_fault (kinds.Answered c op (answers.DiskFault number)) = true
+is_disk_fault it = false
+
 -- An answer other than `written` goes to a cut, to an ask for a name, or to an ask that has no result.
 abbrev pub ResultFits : VolumeStep → Volume → Type 0
 ResultFits (kinds.Answered c op answers.Written) v = ⊤
@@ -34,16 +39,6 @@ ResultFits it v = ⊤
 -- Files are answered without results: at each answer, if the volume has taken all steps before it.
 abbrev pub FilesAreAnsweredWithoutResults : Promise
 FilesAreAnsweredWithoutResults = AtEachStepOf ResultFits
-
--- The answer that a command failed is taken, if a sync is answered so.
-abbrev pub SyncFaultIsTaken : VolumeStep → Volume → Type 0
-SyncFaultIsTaken (kinds.Answered c op (answers.DiskFault number)) v =
-    (a : Pending) → find (is_ask c op) v.pending ≡ Some a → is_sync a.ask ≡ true → is_some (step v (kinds.Answered c op (answers.DiskFault number))) ≡ true
-SyncFaultIsTaken it v = ⊤
-
--- Sync faults are taken: at each answer, if the volume has taken all steps before it.
-abbrev pub SyncFaultsAreTaken : Promise
-SyncFaultsAreTaken = AtEachStepOf SyncFaultIsTaken
 
 -- A sync that has no result is answered `lost` with at least one row; the rows rise by page; and unless they are 1,024, no dropped entry of the file is left of
 -- which the client was not told.

@@ -3,7 +3,7 @@
 //! volume has taken the steps" don't say that it takes them.
 #![tactic(auto)]
 
-ghost use Rattle.st_laws_volume.specs.AnswerKinds.{FilesAreAnsweredWithoutResults, LossesAreToldWhole, SyncFaultsAreTaken, is_opsfull, is_quiesced, is_uncertain};
+ghost use Rattle.st_laws_volume.specs.AnswerKinds.{FilesAreAnsweredWithoutResults, LossesAreToldWhole, is_disk_fault, is_opsfull, is_quiesced, is_uncertain};
 ghost use Rattle.st_laws_volume.specs.AskedAsks.{AsksAreAsAsked};
 ghost use Rattle.st_laws_volume.specs.Asks.{AsksAgree};
 ghost use Rattle.st_laws_volume.specs.Effects.{ChangesFindTheirFiles, ChangesTakeEffect, MappedFilesExist};
@@ -249,11 +249,11 @@ pub fn files_are_answered_without_results()
     ensures { InEveryRun FilesAreAnsweredWithoutResults }
 {}
 
-/// In every run the volume takes each answer `diskfault` to a sync, if it has taken all steps
-/// before it: the command that it names is a write of the sync's file that was just reported
-/// failed.
-pub fn sync_faults_are_taken()
-    ensures { InEveryRun SyncFaultsAreTaken }
+/// In every run the volume takes each answer `diskfault`, if it has taken all steps before it: the
+/// command that it names was just reported failed. It is a write of the file of the sync that is
+/// answered so; or a read of the disks of the server of the read or patch.
+pub fn disk_faults_are_taken()
+    ensures { InEveryRun (StepsAreTaken is_disk_fault) }
 {}
 
 /// In every run, after every event up to which the volume has taken the steps: its open asks have
