@@ -183,7 +183,7 @@ module _ (c : ClientId) (f : FileId) where
       go true p false q = Words.Lookups.or_right (is_by c e) (not (is_on f e.what && is_open e.fate)) (ap not (and_right (is_on f e.what) (is_open e.fate) q))
       go true p true q = or_left (is_by c e) (not (is_on f e.what && is_open e.fate)) (mine p q)
 
-  all_clear : (os : List LogEntry) (es : List Entry) → AreSame os es →
+  pub all_clear : (os : List LogEntry) (es : List Entry) → AreSame os es →
       ((o : LogEntry) → Has o os → log.is_pending o.fate ≡ true → o.of.file ≡ f → o.of.client ≡ c) → list_all (is_clear c f) es ≡ true
   all_clear [] [] s h = refl
   all_clear [] (e ∷ es) s h = absurd s

@@ -1,9 +1,8 @@
 -- The file of each write and patch exists, and what is pending of the file is its client's: in every run.
 use Rattle.st_lemmas.proofs.Words
-use Words.{◌≡◌, ◌⊎◌, ℕ, ◌+◌, ◌<◌, ◌≤◌, arith, Bool, true, false, not, ◌&&◌, ◌||◌, ◌==◌, List, [], ◌∷◌, ◌++◌, length, map, Option, Some, None, Ok, refl, sym, ap, ◌∙◌, subst, inl, inr}
-use Words.{eq-eqb, eqb-true, find, is_some, list_all, list_any, lt-ltb, ltb-true, nat_lt, option_map, ClientId, Config, FileId, Life, PageNo, ServerId, Stamp, Event}
-use Words.{DirtyPage, Extent, HeldLock, KnownExtent, LeaseLife, LogEntry, MappedBlock, Observation}
-use Words.events
+use Words.{◌≡◌, ◌⊎◌, ℕ, ◌+◌, ◌≤◌, arith, true, ◌&&◌, ◌==◌, List, [], ◌∷◌, ◌++◌, Option, Some, None, Ok, refl, sym, ap, ◌∙◌, subst, inl, inr}
+use Words.{eq-eqb, eqb-true, list_any, ltb-true, option_map, ClientId, Config, FileId, PageNo, ServerId, Stamp, Event}
+use Words.{DirtyPage, Extent, KnownExtent, LogEntry, MappedBlock, Observation}
 use Words.nodes
 use Words.seen
 use Words.Client as cl
@@ -13,33 +12,30 @@ use Words.ClientPages as pages
 use Words.ClientState.{Association, ClientSession, is_at}
 use Words.Events.{WorldTurn, world_step}
 use Words.Extents as extents
-use Words.FlatLog.{is_of_life, is_pending}
+use Words.FlatLog.{is_pending}
 use Words.History.{Traced, association_at, association_of, is_exclusive_on, locks_at, traced, traced_after}
-use Words.Keys.{client, same_client, same_page, same_server}
+use Words.Keys.{client, same_client, same_page}
 use Words.Lists.{Has}
-use Words.Lookups.{or_cases}
+use Words.Lookups.{or_left}
 use Words.Lengths.{numbered_there}
-use Words.Members.{between_in_numbers, some_member_passes}
+use Words.Members.{some_member_passes}
 use Words.Names as names
-use Words.Numbers.{numbered_below, numbered_has}
-use Words.Safety.{ChangesAreLocked, DirtyPagesStandAlone, Promise, Step, all_alone, are_alone, changes_alone, dirty_files, file_of_dirty, has_dirty_page, has_exclusive, holds, is_alone, is_apart, is_before, is_change_locked, is_event, lasts, lasts_at, step, steps}
+use Words.Numbers.{numbered_has}
+use Words.Safety.{ChangesAreLocked, has_row, Promise, Step, changes_alone, has_dirty_page, has_exclusive, holds, is_before, is_change_locked, is_event, lasts, lasts_at, step, steps}
 use Words.Server.{ServerNode}
-use Words.Tables.{and_both, and_true, each_passes, found_at, has_map_in, not_true, some_passes}
+use Words.Tables.{and_both, and_true, each_passes, found_at, some_passes}
 use Words.Truth.{clash, file_is, some_there}
-use Words.World as world
-use Words.World.{World, WorldClient, all_clients, all_servers, clock_of, end_or_present, ended_of, fresh_world, is_life_of, lease_end_of, node_of, present_end, site_of}
+use Words.World.{World, WorldClient, clock_of, fresh_world, node_of, site_of}
 use Rattle.st_protocol.specs.Assoc as net
 use Rattle.st_lemmas.proofs.Steps.{throughout_under}
 use Rattle.st_promises.specs.Safe.{EveryRunIsSafe, IsSafeRun}
 use Rattle.st_laws_steps.specs.Lives.Lives.{NodeHolds}
-use Rattle.st_laws_steps.proofs.Lives.Associations.{own_found}
 use Rattle.st_laws_refine.specs.Client.Invariants.{Lasts}
 use Rattle.st_laws_refine.specs.Server.Pair.{terms_of}
 use Rattle.st_laws_refine.specs.Views.Halves.{held_in}
 use Rattle.st_laws_pages.specs.Asks.Law.{PlacesAfter, PlacesHold}
 use Rattle.st_laws_pages.specs.Disks.Runs.{PagesAfter}
 use Rattle.st_laws_pages.specs.Disks.World.{mapped_at, mapped_in}
-use Rattle.st_laws_pages.specs.Fates.Fates.{BeforeEnd}
 use Rattle.st_laws_pages.specs.Flush.Flush.{FlushHold}
 use Rattle.st_laws_pages.proofs.Asks.Law.{places_law}
 use Rattle.st_laws_pages.proofs.Causes.Law.{Stand, fresh_places, fresh_stand, one_step}
@@ -47,11 +43,9 @@ use Rattle.st_laws_leases.specs.Sides.World.{AllStand}
 use Rattle.st_laws_leases.proofs.Sides.DirtyPages.{Lasting, dirty_mode, lasting}
 use Rattle.st_laws_leases.proofs.Sides.Runs.{full}
 use Rattle.st_laws_reads.specs.AllClients.Events.{FrozenStandAlone}
-use Rattle.st_laws_reads.specs.AllClients.Law.{Running}
 use Rattle.st_laws_reads.specs.Copies.Copies.{file_at}
 use Rattle.st_laws_reads.specs.Copies.World.{Unheld}
 use Rattle.st_laws_reads.specs.FrozenLives.PendingEntries.{FrozenHold}
-use Rattle.st_laws_reads.proofs.AllClients.Alone.{owner_at}
 use Rattle.st_laws_reads.proofs.FrozenLives.Law.{alone, events_keep, first}
 use Rattle.st_laws_extents.specs.Known.Known.{Knows}
 use Rattle.st_laws_extents.specs.Known.Law.{KnownAfter}
@@ -61,10 +55,8 @@ use Rattle.st_laws_extents.proofs.LockedRequests.Law.{known}
 use Rattle.st_laws_volume.specs.Effects.{AllHaveFiles, ChangesFindTheirFiles, FindsFile, LineFinds, MappedFilesExist}
 use Rattle.st_laws_volume.specs.Logs.{InEveryRun}
 use Rattle.st_laws_volume.proofs.MappedFiles.{mapped_files_exist}
+use Rattle.st_laws_volume.proofs.PendingAlone.{client_there, no_other, server_same}
 use Rattle.st_laws_volume.proofs.ReadPages.{throughout_both}
-
-server_same : (s r : ServerId) → (s.0 == r.0) ≡ true → s ≡ r
-server_same s r e = ap (λ n. record { 0 = n }) (eqb-true s.0 r.0 e)
 
 -- If a lease lasts.
 lasts_session : (k : Config) (clock : Stamp) (o : Option ClientSession) → is_before clock (lease.end_at k (option_map cl.lease_of_session o)) ≡ true →
@@ -97,20 +89,9 @@ known_at w a h ino p m q = go (pages.known_of a.store.extents ino p) refl q
         let g : k.page ≡ p = ap (λ v. record { 0 = v }) (eqb-true k.page.0 p.0 b.1) in
         subst (λ (v : PageNo). lies w a.server ino v m) g (subst (λ (v : ℕ). lies w a.server v k.page m) n y)
 
--- a client and a server are among all
-client_there : (w : World) (c : ClientId) (site : WorldClient) → site_of w c ≡ Some site → Has c (all_clients w)
-client_there w c site at =
-    let l = numbered_below w.clients c.0 site at in
-    let high = l.1 in
-    has_map_in client (extents.numbers 1 (length w.clients)) c.0 (between_in_numbers 1 (length w.clients) c.0 l.0 (omega (arith, high)))
-
-server_there : (w : World) (s : ServerId) → 1 ≤ s.0 → s.0 ≤ length w.servers → Has s (all_servers w)
-server_there w s low high =
-    has_map_in world.server (extents.numbers 1 (length w.servers)) s.0 (between_in_numbers 1 (length w.servers) s.0 low (omega (arith, high)))
-
 -- A world in which all holds.
 module _ (k : net.Config) (count : ℕ) (past : List Step) (w : World) (all : AllStand k count w) (frozen : FrozenStandAlone w) (flush : FlushHold past w)
-    (apart : list_all (all_alone w) (all_clients w) ≡ true) (knows : AllKnow w) (files : AllHaveFiles w) where
+    (knows : AllKnow w) (files : AllHaveFiles w) where
   holds_of : (c : ClientId) (site : WorldClient) → site_of w c ≡ Some site → NodeHolds w.config w.clocks w.ended c site.node
   holds_of c site at = all.fates.lives.lives.sites c site at
 
@@ -227,91 +208,6 @@ module _ (k : net.Config) (count : ℕ) (past : List Step) (w : World) (all : Al
         no : {n : ℕ} → 2 ≤ n → n ≡ 0 → ⊥
         no l q = omega (arith, l, q)
 
-    -- An entry of a present life of another client that runs: its page is dirty there.
-    module _ (d : ℕ) (other : WorldClient) (running : Running w d other) (b : Association) (has : Has b other.node.state.associations) (e : LogEntry)
-        (logged : Has e w.log) (open_ : is_pending e.fate ≡ true) (life : is_of_life (client d) b.server b.life e.of ≡ true) (same : e.of.file ≡ f)
-        (differs : client d ≡ c → ⊥) where
-      of_client : e.of.client ≡ client d
-      of_client = ap (λ n. record { 0 = n }) (eqb-true e.of.client.0 d (and_true (same_client e.of.client (client d)) _ life).0)
-
-      of_life : (e.of.file.server ≡ b.server) × (e.of.life ≡ b.life)
-      of_life =
-          let q = and_true (same_server e.of.file.server b.server) (e.of.life.0 == b.life.0) (and_true (same_client e.of.client (client d)) _ life).1 in
-          (server_same e.of.file.server b.server q.0, ap (λ n. record { 0 = n }) (eqb-true e.of.life.0 b.life.0 q.1))
-
-      dirty_page : (x : DirtyPage) × (pages.dirty_of b.store.pages e.of.file.ino e.of.page ≡ Some x)
-      dirty_page =
-          owner_at _ w.log e ((flush.sites (client d) other running.there running.runs).cared b has).entries logged open_ of_client of_life.0 of_life.1
-
-      found : cl.association_with other.node.state b.server ≡ Some b
-      found = own_found other.node.state.associations (holds_of (client d) other running.there).once b has
-
-      goes_on : ended_of w (client d) b.server b.life ≡ None
-      goes_on = go (ended_of w (client d) b.server b.life) refl
-        where
-          go : (o : Option LeaseLife) → ended_of w (client d) b.server b.life ≡ o → o ≡ None
-          go None q = refl
-          go (Some row) q =
-              let z = found_at (is_life_of (client d) b.server b.life) w.ended row q in
-              let y = and_true (same_client row.client (client d)) _ z.0 in
-              let r = and_true (same_server row.server b.server) (row.life.0 == b.life.0) y.1 in
-              let sv : row.server ≡ b.server = server_same row.server b.server r.0 in
-              let below =
-              ((holds_of (client d) other running.there).below row z.1 (ap (λ n. record { 0 = n }) (eqb-true row.client.0 d y.0)) b
-              (subst (λ (v : ServerId). cl.association_with other.node.state v ≡ Some b) (sym sv) found)).below running.runs in
-              let l = eqb-true row.life.0 b.life.0 r.1 in
-              absurd (omega (arith, below, l))
-
-      lease_there : lasts w (client d) b.server ≡ true
-      lease_there =
-          let y : BeforeEnd w e.of = owner_at (BeforeEnd w) w.log e all.fates.pending logged open_ in
-          let q : lease_end_of w (client d) b.server b.life ≡ Some y.end =
-          subst (λ (l : Life). lease_end_of w (client d) b.server l ≡ Some y.end) of_life.1
-          (subst (λ (s : ServerId). lease_end_of w (client d) s e.of.life ≡ Some y.end) of_life.0
-          (subst (λ (x : ClientId). lease_end_of w x e.of.file.server e.of.life ≡ Some y.end) of_client y.is)) in
-          let end : cl.lease_end_with other.node.state b.server ≡ Some y.end =
-          sym (ap (end_or_present w (client d) b.server) goes_on ∙ ap (present_end w b.server) running.there) ∙ q in
-          let before : (clock_of w (nodes.Client (client d))).0 < y.end.0 =
-          subst (λ (x : ClientId). (clock_of w (nodes.Client x)).0 < y.end.0) of_client y.before in
-          ap (lasts_at (clock_of w (nodes.Client (client d))) b.server) running.there
-          ∙ and_both other.node.running (is_before (clock_of w (nodes.Client (client d))) (cl.lease_end_with other.node.state b.server)) running.runs
-          (ap (is_before (clock_of w (nodes.Client (client d)))) end ∙ lt-ltb (clock_of w (nodes.Client (client d))).0 y.end.0 before)
-
-      abbrev its : FileId
-      its = file_of_dirty b.server dirty_page.0
-
-      its_file : its ≡ f
-      its_file =
-          let z = found_at (pages.is_dirty_of e.of.file.ino e.of.page) b.store.pages.dirty dirty_page.0 dirty_page.1 in
-          let i = eqb-true dirty_page.0.ino e.of.file.ino (and_true (dirty_page.0.ino == e.of.file.ino) (same_page dirty_page.0.page e.of.page) z.0).0 in
-          ap (λ (s : ServerId). record { server = s; ino = dirty_page.0.ino }) (sym of_life.0)
-          ∙ (ap (λ (n : ℕ). record { server = e.of.file.server; ino = n }) i ∙ same)
-
-      in_list : Has its (dirty_files w (client d) b.server)
-      in_list =
-          let z = found_at (pages.is_dirty_of e.of.file.ino e.of.page) b.store.pages.dirty dirty_page.0 dirty_page.1 in
-          has_map_in (file_of_dirty b.server) (Words.Safety.dirty_at (association_of w (client d) b.server)) dirty_page.0
-          (subst (λ o. Has dirty_page.0 (Words.Safety.dirty_at o)) (sym (ap (association_at b.server) running.there ∙ found)) z.1)
-
-      stands : list_all (is_alone w (client d)) (dirty_files w (client d) b.server) ≡ true
-      stands =
-          let z = flush.servers (client d) other running.there b has in
-          let one = each_passes (all_alone w) (all_clients w) apart (client d) (client_there w (client d) other running.there) in
-          let two = each_passes (are_alone w (client d)) (all_servers w) one b.server (server_there w b.server z.0 z.1) in
-          sym (ap (λ x. not x || list_all (is_alone w (client d)) (dirty_files w (client d) b.server)) lease_there) ∙ two
-
-      pub no_other : ⊥
-      no_other =
-          let one = each_passes (is_alone w (client d)) (dirty_files w (client d) b.server) stands its in_list in
-          let two = subst (λ (x : FileId). is_alone w (client d) x ≡ true) its_file one in
-          let z = each_passes (is_apart w f (client d)) (all_clients w) two c (client_there w c own.site own.there) in
-          go (or_cases (same_client (client d) c) _ z)
-        where
-          go : (same_client (client d) c ≡ true) ⊎ (not (holds w c f || Words.Safety.has_row w c f) ≡ true) → ⊥
-          go (inl q) = differs (ap (λ n. record { 0 = n }) (eqb-true d c.0 q))
-          go (inr q) =
-              clash (Words.Lookups.or_left (holds w c f) (Words.Safety.has_row w c f) held_there) (not_true (holds w c f || Words.Safety.has_row w c f) q)
-
     -- What is pending of the file is its own.
     only_own : (node : ServerNode) → node_of w f.server ≡ Some node → (e : LogEntry) → Has e w.log → is_pending e.fate ≡ true → e.of.file ≡ f →
         e.of.client ≡ c
@@ -324,7 +220,8 @@ module _ (k : net.Config) (count : ℕ) (past : List Step) (w : World) (all : Al
             (is_held node at e same
             (frozen e logged open_
             (λ d other b running has life.
-            no_other d other running b has e logged open_ life same
+            no_other k count past w all flush c f (client_there w c own.site own.there) (or_left (holds w c f) (has_row w c f) held_there) d other running b has e
+            logged open_ life same
             (λ q. n (sym
             (eqb-true d e.of.client.0 (eq-eqb d e.of.client.0 (sym (eqb-true e.of.client.0 d (and_true (same_client e.of.client (client d)) _ life).0))))
             ∙ ap (λ (x : ClientId). x.0) q)))
@@ -359,7 +256,7 @@ record Stood (k : net.Config) (count : ℕ) (past : List Step) (t : Traced) : Ty
 
 abbrev Owed : Promise
 Owed past x =
-    PlacesAfter past x × (KnownAfter past x × (ChangesAreLocked past x × (DirtyPagesStandAlone past x × (MappedFilesExist past x × PagesAfter past x))))
+    PlacesAfter past x × (KnownAfter past x × (ChangesAreLocked past x × (MappedFilesExist past x × PagesAfter past x)))
 
 one_finds : (k : net.Config) (count : ℕ) (past : List Step) (t : Traced) (e : Event) (sc : WorldTurn) → is_event count e ≡ true → Stood k count past t →
     world_step t.world e ≡ Ok sc → Owed past (step t e sc) →
@@ -370,8 +267,8 @@ one_finds k count past t e sc in_range s taken g =
     let frozen : FrozenHold k count sc.world =
     events_keep past k count t.world e sc s.frozen_lives s.stand.both.flush (full count t.world e s.frozen_lives.all.nodes in_range) taken in (
       λ o i.
-          line_finds k count (past ++ x ∷ []) sc.world frozen.all (alone (past ++ x ∷ []) k count sc.world frozen stand.both.flush) stand.both.flush g.1.1.1.0
-          g.1.0 g.1.1.1.1.0 g.1.1.1.1.1.extents.ids o (each_passes (is_change_locked sc.world) sc.seen g.1.1.0 o i),
+          line_finds k count (past ++ x ∷ []) sc.world frozen.all (alone (past ++ x ∷ []) k count sc.world frozen stand.both.flush) stand.both.flush g.1.0
+          g.1.1.1.0 g.1.1.1.1.extents.ids o (each_passes (is_change_locked sc.world) sc.seen g.1.1.0 o i),
       record { places = g.0; stand = stand; frozen_lives = frozen },
     )
 
@@ -388,11 +285,10 @@ changes_find_their_files safe k clients servers disks blocks form es head events
       frozen_lives = first k clients servers disks blocks form head;
     })
     (throughout_both PlacesAfter
-    (λ past x. KnownAfter past x × (ChangesAreLocked past x × (DirtyPagesStandAlone past x × (MappedFilesExist past x × PagesAfter past x)))) [] (steps es t)
+    (λ past x. KnownAfter past x × (ChangesAreLocked past x × (MappedFilesExist past x × PagesAfter past x))) [] (steps es t)
     (places_law k clients servers disks blocks form es head)
-    (throughout_both KnownAfter (λ past x. ChangesAreLocked past x × (DirtyPagesStandAlone past x × (MappedFilesExist past x × PagesAfter past x))) []
+    (throughout_both KnownAfter (λ past x. ChangesAreLocked past x × (MappedFilesExist past x × PagesAfter past x)) []
     (steps es t) (known k clients servers disks blocks form es head events)
-    (throughout_both ChangesAreLocked (λ past x. DirtyPagesStandAlone past x × (MappedFilesExist past x × PagesAfter past x)) [] (steps es t) kept.locked
-    (throughout_both DirtyPagesStandAlone (λ past x. MappedFilesExist past x × PagesAfter past x) [] (steps es t) kept.alone
+    (throughout_both ChangesAreLocked (λ past x. MappedFilesExist past x × PagesAfter past x) [] (steps es t) kept.locked
     (throughout_both MappedFilesExist PagesAfter [] (steps es t) (mapped_files_exist k clients servers disks blocks form es head events)
-    (pages_after k clients servers disks blocks form es head events))))))
+    (pages_after k clients servers disks blocks form es head events)))))

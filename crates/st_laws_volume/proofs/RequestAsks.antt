@@ -1,8 +1,8 @@
 -- In every run the ghost knows which ask a request is of that a server serves: an operation waited for its reply under the key of the request.
 use Rattle.st_lemmas.proofs.Words
 use Words.{◌≡◌, ◌⊎◌, ℕ, suc, ◌+◌, Bool, true, false, not, ◌&&◌, ◌==◌, List, [], ◌∷◌, ◌++◌, Option, Some, None, Ok, refl, sym, ap, ◌∙◌, subst, inl, inr, if◌then◌else◌}
-use Words.{eq-eqb, eqb-true, find, flat_map, is_some, list_all, slice_get, Ask, Body, ClientId, Event, Header, Message, NodeId, SentMessage, ServerId, Stamp}
-use Words.{Config, Operation, Request, Session}
+use Words.{eq-eqb, eqb-true, find, flat_map, is_some, list_all, list_any, slice_get, Ask, Body, ClientId, Event, Header, Message, NodeId, SentMessage, ServerId, Stamp}
+use Words.{Config, GrantNo, Operation, Request, Session}
 use Words.bodies
 use Words.events
 use Words.nodes
@@ -31,10 +31,13 @@ use Rattle.st_lemmas.proofs.Numbers as numbers
 use Rattle.st_trace.specs.Server.Edits.{Begun}
 use Rattle.st_trace.proofs.Server.Input.{thefts_begun}
 use Rattle.st_trace.proofs.Server.Taking.{FreshState, Found, found_for, fresh_state}
+use Rattle.st_promises.specs.CutAsks.{settles_in}
 use Rattle.st_laws_pages.specs.Disks.Obligations.{FatesHold}
 use Rattle.st_laws_pages.proofs.Disks.Whole.{fates_law}
 use Rattle.st_laws_refine.specs.Server.Pair.{terms_of}
 use Rattle.st_laws_leases.specs.Dates.Dates.{messages}
+use Rattle.st_laws_extents.specs.CutRequests.Law.{gifts}
+use Rattle.st_laws_cuts.specs.EndedRequests.{MeansTo}
 use Rattle.st_laws_cuts.specs.ServedRequests.{IsServedBy}
 use Rattle.st_laws_names.specs.OutstandingKeys.{KeysHaveOneOperation, SameKey, WaitsUnder}
 use Rattle.st_laws_names.proofs.Behind as served
@@ -288,7 +291,7 @@ module _ (s : ServerId) (node : ServerNode) (now : Stamp) (m : Message) (q : ser
       }
 
 -- The ghost has the operation of a request that is served: it waited under the key of the request.
-pub record HasKey (it : Witness) (past : List Step) (w : World) (s : ServerId) (m : Message) : Type 0 where
+pub record HasKey (it : Witness) (past : List Step) (w : World) (G : ℕ → GrantNo → Type 0) (s : ServerId) (m : Message) : Type 0 where
   pub behind : Behind
   pub found : find (is_behind s m.header) it.behind ≡ Some behind
   pub at : Step
@@ -298,12 +301,18 @@ pub record HasKey (it : Witness) (past : List Step) (w : World) (s : ServerId) (
   pub asked : world.numbered (Rattle.st_laws_requests.specs.Cuts.Cuts.asks_of past (client m.header.from)) behind.op ≡ Some ask
   pub server : Words.ClientState.server_of ask ≡ s
   pub means : Rattle.st_laws_requests.specs.Cuts.Cuts.AsksFor ask m.body
+  pub to : MeansTo G s ask m.body
+  pub unsettled : list_any (settles_in (client m.header.from) behind.op) past ≡ false
 
 module _ (k : net.Config) (count : ℕ) (past : List Step) (t : Traced) (it : Witness) (names_ : ChangesHold k count past t) (ghost_ : GhostHolds past t it)
     (one : (y z : Step) → Has y past → Has z past → (c : ClientId) (s : ServerId) (life epoch number op n : ℕ) →
     WaitsUnder y.after.world c s life epoch number op → WaitsUnder z.after.world c s life epoch number n → op ≡ n) where
+  -- what was granted to the sender of a request
+  abbrev pub Grants : ServerId → Message → ℕ → GrantNo → Type 0
+  Grants s m = gifts k count t.world names_.names_.all.base.all (client m.header.from) s
+
   pub has_key : (s : ServerId) (node : ServerNode) → node_of t.world s ≡ Some node → (m : Message) → Has m (messages t.world) →
-      does_at t.world s (Some node) m ≡ true → HasKey it past t.world s m
+      does_at t.world s (Some node) m ≡ true → HasKey it past t.world (Grants s m) s m
   has_key s node at m among q =
       by (served.behind k count past t names_.names_.all names_.rows s node at r.0 m among (is_served s node (now_at t.world s) m d.0) own)
     where
@@ -345,8 +354,7 @@ module _ (k : net.Config) (count : ℕ) (past : List Step) (t : Traced) (it : Wi
           (subst (λ (n : ServerId). WaitsUnder y.after.world c n b.life b.epoch b.number b.op) i.1
           (subst (λ (n : ClientId). WaitsUnder y.after.world n b.server b.life b.epoch b.number b.op) i.0 z))))
 
-      by : served.Behind past (Rattle.st_laws_extents.specs.CutRequests.Law.gifts k count t.world names_.names_.all.base.all c s) t.world s m →
-          HasKey it past t.world s m
+      by : served.Behind past (Grants s m) t.world s m → HasKey it past t.world (Grants s m) s m
       by z = go (find_there (is_behind s m.header) it.behind mine listed_here passes)
         where
           mine : Behind
@@ -366,7 +374,7 @@ module _ (k : net.Config) (count : ℕ) (past : List Step) (t : Traced) (it : Wi
               (and_both (z.row.asked.epoch_ == m.header.epoch) (z.row.asked.number_ == m.header.number) (eq-eqb z.row.asked.epoch_ m.header.epoch e.epoch_)
               (eq-eqb z.row.asked.number_ m.header.number e.number_)))
 
-          go : (b : Behind) × (find (is_behind s m.header) it.behind ≡ Some b) → HasKey it past t.world s m
+          go : (b : Behind) × (find (is_behind s m.header) it.behind ≡ Some b) → HasKey it past t.world (Grants s m) s m
           go (b, f) =
               let g = found_at (is_behind s m.header) it.behind b f in
               let y = ghost_.known b g.1 in
@@ -383,13 +391,15 @@ module _ (k : net.Config) (count : ℕ) (past : List Step) (t : Traced) (it : Wi
                 asked = ap (world.numbered (Rattle.st_laws_requests.specs.Cuts.Cuts.asks_of past c)) same ∙ z.asked;
                 server = z.of;
                 means = z.means;
+                to = z.to;
+                unsettled = ap (λ (n : ℕ). list_any (settles_in c n) past) same ∙ z.unsettled;
               }
 
   has_ask : (s : ServerId) (node : ServerNode) → node_of t.world s ≡ Some node → (m : Message) → Has m (messages t.world) →
       does_at t.world s (Some node) m ≡ true → HasAsk it past s m
   has_ask s node at m among q =
       let z = has_key s node at m among q in
-      record { behind = z.behind; found = z.found; ask = z.ask; asked = z.asked; server = z.server; means = z.means }
+      record { behind = z.behind; found = z.found; ask = z.ask; asked = z.asked; server = z.server; means = z.means; unsettled = z.unsettled }
 
   at_delivery : (e : Event) → OfDelivery (HasAsk it past) t.world e
   at_delivery (events.Deliver n) = go (message_of t.world n) (λ m q. numbered_has t.world.net.messages n m q)

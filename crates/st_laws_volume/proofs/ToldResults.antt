@@ -43,7 +43,7 @@ use Rattle.st_laws_requests.specs.Cuts.Cuts.{AsksFor, Keyed, asks_of}
 use Rattle.st_laws_requests.proofs.Cuts.Keeping.{Answers}
 use Rattle.st_laws_requests.proofs.Cuts.Seen.{NoAnswer, NoAnswers, none_answered as no_answers, server_none}
 use Rattle.st_laws_names.specs.Keys.{HasEvent, ServedAt, is_final}
-use Rattle.st_laws_names.specs.OutstandingKeys.{KeysHaveOneOperation, SameKey}
+use Rattle.st_laws_names.specs.OutstandingKeys.{KeysHaveOneOperation, SameKey, WaitsUnder}
 use Rattle.st_laws_names.proofs.Facts.{FactsHold, facts_begin, facts_on, operations_law}
 use Rattle.st_laws_names.proofs.Keys.{IsRequested, IsTold, is_told, keyed_same, one_body, told_on}
 use Rattle.st_laws_names.proofs.Rows.{worlds_on}
@@ -68,7 +68,7 @@ use Rattle.st_laws_volume.proofs.LogLines.{run_then}
 use Rattle.st_laws_volume.proofs.OpenAnswers.{Open, block, block_open, first_open, open_left, served_open}
 use Rattle.st_laws_volume.proofs.Options.{on_all, on_if, on_more, on_then, on_true}
 use Rattle.st_laws_volume.proofs.ReadPages.{InRange, all_in_range, throughout_both}
-use Rattle.st_laws_volume.proofs.RequestAsks.{GhostHolds, HasKey, cut_or_name, ghost_begins, ghost_kept, has_key}
+use Rattle.st_laws_volume.proofs.RequestAsks.{GhostHolds, Grants, HasKey, cut_or_name, ghost_begins, ghost_kept, has_key}
 use Rattle.st_laws_volume.proofs.RequestResults.{request_so, tells, told}
 use Rattle.st_laws_volume.proofs.ResultsStay.{AllKeep, event_keep, keeps, run_keep}
 use Rattle.st_laws_volume.proofs.ServedRequests.{done_there, receiver}
@@ -291,11 +291,14 @@ module _ (k : net.Config) (count : ℕ) (past : List Step) (t : Traced) (e : Eve
     among : Has m (messages w)
     among = has_map_in message_in w.net.messages z.sent (numbered_has w.net.messages z.index z.sent z.is)
 
-    key : HasKey it past w s m
+    one_past : (y v : Step) → Has y past → Has v past → (d : ClientId) (r : ServerId) (l p b o u : ℕ) → WaitsUnder y.after.world d r l p b o →
+        WaitsUnder v.after.world d r l p b u → o ≡ u
+    one_past y v i j d r l p b o u f g = one y v (has_left past (x ∷ []) y i) (has_left past (x ∷ []) v j) d r l p b o u f g
+
+    key : HasKey it past w (Grants k count past t it h.facts.changes_ h.ghost_ one_past s m) s m
     key =
-        has_key k count past t it h.facts.changes_ h.ghost_
-        (λ y v i j d r l p b o u f g. one y v (has_left past (x ∷ []) y i) (has_left past (x ∷ []) v j) d r l p b o u f g)
-        s z.serves.old z.serves.was m among (subst (λ o. does_at w s o m ≡ true) z.serves.was done_here)
+        has_key k count past t it h.facts.changes_ h.ghost_ one_past s z.serves.old z.serves.was m among
+        (subst (λ o. does_at w s o m ≡ true) z.serves.was done_here)
 
     from : client m.header.from ≡ c
     from = ap (λ i. record { 0 = i }) z.serves.keyed.between.0

@@ -46,7 +46,7 @@ use Rattle.st_laws_volume.proofs.LogLines.{run_then}
 use Rattle.st_laws_volume.proofs.OpenResults.{AllFine, effect_fine, lines_fine, run_fine}
 use Rattle.st_laws_volume.proofs.Options.{on_if, on_more, on_then}
 use Rattle.st_laws_volume.proofs.ReadPages.{InRange, all_in_range, throughout_both}
-use Rattle.st_laws_volume.proofs.RequestAsks.{GhostHolds, HasKey, cut_or_name, ghost_begins, ghost_kept, has_key, is_served}
+use Rattle.st_laws_volume.proofs.RequestAsks.{GhostHolds, Grants, HasKey, cut_or_name, ghost_begins, ghost_kept, has_key, is_served}
 use Rattle.st_laws_volume.proofs.ServedEnds.{ends_there}
 use Rattle.st_laws_volume.proofs.ToldSteps.{event_kept}
 use Rattle.st_laws_volume.proofs.TreeSteps.{none_above}
@@ -107,7 +107,7 @@ module _ (k : net.Config) (count : ℕ) (past : List Step) (t : Traced) (e : Eve
   -- A request that a server serves.
   module _ (s : ServerId) (node : ServerNode) (at : node_of w s ≡ Some node) (m : Message) (among : Has m (messages w))
       (done : does_at w s (Some node) m ≡ true) where
-    key : HasKey it past w s m
+    key : HasKey it past w (Grants k count past t it h.facts.changes_ h.ghost_ one_past s m) s m
     key = has_key k count past t it h.facts.changes_ h.ghost_ one_past s node at m among done
 
     id : node.state.id ≡ s

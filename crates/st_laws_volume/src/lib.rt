@@ -17,9 +17,9 @@ ghost use Rattle.st_laws_volume.specs.Logs.{InEveryRun, LogsAgree};
 ghost use Rattle.st_laws_volume.specs.LossMarks.{LossesAreMet};
 ghost use Rattle.st_laws_volume.specs.Notices.{AsksHaveNoticed};
 ghost use Rattle.st_laws_volume.specs.Reads.{PagesAgree, ReadsGiveThePages};
-ghost use Rattle.st_laws_volume.specs.Requests.{RequestsFindNone, RequestsHaveAsks};
+ghost use Rattle.st_laws_volume.specs.Requests.{RequestsAreForTheirAsks, RequestsFindNone, RequestsHaveAsks, RequestsHaveEffects, RequestsTakeEffectInOrder};
 ghost use Rattle.st_laws_volume.specs.ResultAnswers.{gives_result};
-ghost use Rattle.st_laws_volume.specs.Results.{ResultsAreOfCutsAndNames};
+ghost use Rattle.st_laws_volume.specs.Results.{OrphansHaveNoResult, ResultsAreOfCutsAndNames};
 ghost use Rattle.st_laws_volume.specs.TreeNames.{NamesStaySound, SoundNamesDoTheSame};
 ghost use Rattle.st_laws_volume.specs.Trees.{TreesAgree};
 
@@ -167,6 +167,12 @@ pub fn results_are_of_cuts_and_names()
     ensures { InEveryRun ResultsAreOfCutsAndNames }
 {}
 
+/// In every run, after every event up to which the volume has taken the steps: no orphaned ask has
+/// a result.
+pub fn orphans_have_no_result()
+    ensures { InEveryRun OrphansHaveNoResult }
+{}
+
 /// In every run each answer is one to an ask that is open in the volume, if the volume has taken
 /// all steps before it.
 pub fn answers_are_to_open_asks()
@@ -263,9 +269,30 @@ pub fn asks_have_noticed()
 {}
 
 /// In every run each request for a cut or a name that a server serves and does belongs to an ask of
-/// its sender, which the ghost has under the key of the request.
+/// its sender, which the ghost has under the key of the request. The ask wasn't answered yet, or
+/// with `uncertain`.
 pub fn requests_have_asks()
     ensures { InEveryRun RequestsHaveAsks }
+{}
+
+/// In every run each such request is that of its ask: it has the words of the ask, and the request
+/// of a remove names a grant if the ask means a file.
+pub fn requests_are_for_their_asks()
+    ensures { InEveryRun RequestsAreForTheirAsks }
+{}
+
+/// In every run what is asked by such a request has an effect in the volume, if the volume has
+/// taken the steps of all events before: a file that it cuts or removes exists, and no other client
+/// has open entries of the file; and an ask for a name makes something of the tree.
+pub fn requests_have_effects()
+    ensures { InEveryRun RequestsHaveEffects }
+{}
+
+/// In every run the volume takes the effect of the ask as a server serves such a request. It does
+/// so if it has taken the steps of all events before, the ask is open or orphaned, and no open ask
+/// must take effect before it.
+pub fn requests_take_effect_in_order()
+    ensures { InEveryRun RequestsTakeEffectInOrder }
 {}
 
 /// In every run such a request finds that the open ask to which it belongs has no result yet: an
