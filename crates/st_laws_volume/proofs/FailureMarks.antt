@@ -35,7 +35,7 @@ use Rattle.st_laws_pages.proofs.Asks.Law.{places_law}
 use Rattle.st_laws_pages.proofs.Causes.Law.{Stand, fresh_places, fresh_stand, one_step}
 use Rattle.st_laws_pages.proofs.Disks.Effects.{report_finds}
 use Rattle.st_laws_pages.proofs.Writes.Law.{fresh_open, open_after}
-use Rattle.st_laws_volume.specs.FateMarks.{AreRemembered, FailedWritesAreRemembered, is_crashed_life}
+use Rattle.st_laws_volume.specs.FateMarks.{AreRemembered, FailedWritesAreRemembered, is_crash_of, is_crashed_life}
 use Rattle.st_laws_volume.specs.Logs.{InEveryRun, IsLogOf, IsSame, ask_of, fate_of}
 use Rattle.st_laws_volume.specs.Options.{OnSome}
 use Rattle.st_laws_volume.specs.Seen.{failure, failure_of, failure_told, of_event}
@@ -254,7 +254,7 @@ module _ (past : List Step) (t : Traced) (e : Event) (sc : WorldTurn) (happened 
       of = ap (λ (k : LogEntry). k.of) (sym same) ∙ z.2.of
 
       alive : (c : Bool) → is_crashed_life w.ended o.of ≡ c → c ≡ false
-      alive true q = absurd (clash (ap (is_crashed_life sc.world.ended) of ∙ adds.1 o.of q) spared)
+      alive true q = absurd (clash (ap (is_crashed_life sc.world.ended) of ∙ adds.1 (is_crash_of o.of) q) spared)
       alive false q = refl
 
       last : last_write w.commands o.of ≡ last_write sc.world.commands p.of

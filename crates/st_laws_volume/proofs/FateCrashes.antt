@@ -1,7 +1,7 @@
 -- In every run the entries of lives that a crash ended are marked.
 use Rattle.std.proofs.Common.{◌≡◌, ℕ, zero, suc, ◌+◌, ◌<◌, ◌⊎◌, Bool, true, false, ◌&&◌, ◌||◌, ◌==◌, List, [], ◌∷◌, ◌++◌, map, Option, Some, None, Ok, Err, refl, sym, ap, ◌∙◌, subst, inl, inr, arith, if◌then◌else◌}
 use Rattle.std.specs.Prelude.{length, Result, find, set, slice_get}
-use Rattle.std.specs.List.{list_all}
+use Rattle.std.specs.List.{list_all, list_any}
 use Rattle.std.proofs.lemmas.Bool.{eq-eqb, eqb-true}
 use Rattle.st_base.specs.declared.config.Config.{Config}
 use Rattle.st_base.specs.declared.ids.ClientId.{ClientId}
@@ -67,17 +67,17 @@ use Rattle.st_laws_volume.proofs.ReadPages.{throughout_both, throughout_more}
 use Rattle.st_volume.specs.Pages.{Entry}
 use Rattle.st_volume.specs.Volume.{Volume, run}
 
--- Lives that a crash ended: only a crash of their client adds such a life.
+-- Lives that a crash ended: only a crash of their client adds such a life. No life that ended is forgotten.
 abbrev Crashes : Event → LogOwner → Type 0
 Crashes e o = (c : ClientId) × (e ≡ events.Crash (nodes.Client c)) × (o.client ≡ c)
 
 abbrev pub Adds : World → Event → World → Type 0
 Adds w e v =
     ((o : LogOwner) → is_crashed_life v.ended o ≡ true → (is_crashed_life w.ended o ≡ true) ⊎ Crashes e o)
-    × ((o : LogOwner) → is_crashed_life w.ended o ≡ true → is_crashed_life v.ended o ≡ true)
+    × ((p : LeaseLife → Bool) → list_any p w.ended ≡ true → list_any p v.ended ≡ true)
 
 same_ended : (w v : World) (e : Event) → v.ended ≡ w.ended → Adds w e v
-same_ended w v e q = (λ o h. inl (ap (λ es. is_crashed_life es o) (sym q) ∙ h), λ o h. ap (λ es. is_crashed_life es o) q ∙ h)
+same_ended w v e q = (λ o h. inl (ap (λ es. is_crashed_life es o) (sym q) ∙ h), λ p h. ap (λ es. list_any p es) q ∙ h)
 
 one_more : (o : LogOwner) (es : List LeaseLife) (l : LeaseLife) → l.crashed ≡ false → is_crashed_life (es ++ l ∷ []) o ≡ is_crashed_life es o
 one_more o [] l q = ap (λ b. (b && is_of_life_over l 0 o) || false) q
@@ -111,6 +111,37 @@ all_ended : (c : ClientId) (before : ClientState) (os : List Output) (sc : World
 unfolding ev.client_says_all
 all_ended c before [] sc o = refl
 all_ended c before (x ∷ os) sc o = all_ended c before os (ev.client_says sc c before x) o ∙ says_ended c before x sc o
+
+any_front : (p : LeaseLife → Bool) (es ls : List LeaseLife) → list_any p es ≡ true → list_any p (es ++ ls) ≡ true
+any_front p [] ls q = cc q
+any_front p (x ∷ es) ls q = go (p x) q (any_front p es ls)
+  where
+    go : (b : Bool) → (b || list_any p es) ≡ true → (list_any p es ≡ true → list_any p (es ++ ls) ≡ true) → (b || list_any p (es ++ ls)) ≡ true
+    go true q r = refl
+    go false q r = r q
+
+note_front : (c : ClientId) (before : ClientState) (n : Note) (sc : WorldTurn) (p : LeaseLife → Bool) →
+    list_any p sc.world.ended ≡ true → list_any p (ev.client_notes sc c before n).world.ended ≡ true
+unfolding ev.client_notes ev.accepts ev.patches ev.loses
+note_front c before (notes.Leased s end) sc p h = h
+note_front c before (notes.Lost s life) sc p h = any_front p sc.world.ended (ev.life_over c s life (cl.lease_end_with before s) ∷ []) h
+note_front c before (notes.Accepted f q bytes) sc p h = h
+note_front c before (notes.Patched f q at bytes) sc p h = h
+note_front c before n sc p h = h
+
+says_front : (c : ClientId) (before : ClientState) (x : Output) (sc : WorldTurn) (p : LeaseLife → Bool) →
+    list_any p sc.world.ended ≡ true → list_any p (ev.client_says sc c before x).world.ended ≡ true
+unfolding ev.client_says ev.sends ev.answers_with
+says_front c before (outputs.Send m) sc p h = h
+says_front c before (outputs.Submit number at what) sc p h = ap (λ es. list_any p es) (submit_ended c (site_of sc.world c) number at what sc) ∙ h
+says_front c before (outputs.Answer op answer) sc p h = h
+says_front c before (outputs.Note n) sc p h = note_front c before n sc p h
+
+all_front : (c : ClientId) (before : ClientState) (os : List Output) (sc : WorldTurn) (p : LeaseLife → Bool) →
+    list_any p sc.world.ended ≡ true → list_any p (ev.client_says_all c before os sc).world.ended ≡ true
+unfolding ev.client_says_all
+all_front c before [] sc p h = h
+all_front c before (x ∷ os) sc p h = all_front c before os (ev.client_says sc c before x) p (says_front c before x sc p h)
 
 served_note : (s : ServerId) (n : Note) (sc : WorldTurn) → (ev.server_notes sc s n).world.ended ≡ sc.world.ended
 unfolding ev.server_notes ev.cuts
@@ -148,15 +179,6 @@ lives_own c [] (l ∷ ls) o h q = go (is_crash_of o (ev.crashed_life l)) refl q 
     go true f q r = inr (ap (λ n. record { 0 = n }) (eqb-true o.client.0 l.client.0 (and_true (o.client.0 == l.client.0) _ f).0) ∙ h l (inl refl))
     go false f q r = r q
 
-crashed_front : (es ls : List LeaseLife) (o : LogOwner) → is_crashed_life es o ≡ true → is_crashed_life (es ++ ls) o ≡ true
-crashed_front [] ls o q = cc q
-crashed_front (x ∷ es) ls o q = go (is_crash_of o x) q (crashed_front es ls o)
-  where
-    go : (b : Bool) → (b || is_crashed_life es o) ≡ true → (is_crashed_life es o ≡ true → is_crashed_life (es ++ ls) o ≡ true) →
-        (b || is_crashed_life (es ++ ls) o) ≡ true
-    go true q r = refl
-    go false q r = r q
-
 lives_client : (k : Config) (c : ClientId) (as_ : List Association) (l : LeaseLife) → Has l (map (world.life_of_association k c) as_) → l.client ≡ c
 lives_client k c [] l h = absurd h
 lives_client k c (a ∷ as_) l (inl e) = ap (λ (x : LeaseLife). x.client) e
@@ -182,8 +204,11 @@ module _ (t : World) (e : Event) (ids : (c : ClientId) (site : WorldClient) → 
           let sc : WorldTurn = ev.client_says_all c site.node.state u.out (ev.quiet (ev.with_site c (ev.at_node u.node site) v)) in
           let same : (o : LogOwner) → is_crashed_life (ev.flushes c u.node.state (world.all_servers sc.world) sc.world).ended o ≡ is_crashed_life t.ended o =
           λ o. ap (λ es. is_crashed_life es o) (flush_parts c u.node.state (world.all_servers sc.world) sc.world).ended
-          ∙ (all_ended c site.node.state u.out (ev.quiet (ev.with_site c (ev.at_node u.node site) v)) o ∙ ap (λ es. is_crashed_life es o) q) in
-          (λ o h. inl (sym (same o) ∙ h), λ o h. same o ∙ h)
+          ∙ (all_ended c site.node.state u.out (ev.quiet (ev.with_site c (ev.at_node u.node site) v)) o ∙ ap (λ es. is_crashed_life es o) q) in (
+            λ o h. inl (sym (same o) ∙ h),
+            λ p h. ap (λ es. list_any p es) (flush_parts c u.node.state (world.all_servers sc.world) sc.world).ended
+                ∙ all_front c site.node.state u.out (ev.quiet (ev.with_site c (ev.at_node u.node site) v)) p (ap (λ es. list_any p es) q ∙ h),
+          )
 
   by_client : (v : World) (c : ClientId) (i : ClientInput) → v.ended ≡ t.ended → (o : Option WorldClient) → R (ev.at_client v c i o)
   unfolding ev.at_client
@@ -239,7 +264,7 @@ module _ (t : World) (e : Event) (ids : (c : ClientId) (site : WorldClient) → 
     λ o h. go o
         (lives_own c t.ended (lives_of site.node.state) o
         (λ l i. lives_client site.node.state.config site.node.state.id site.node.state.associations l i ∙ ids c site at) h),
-    λ o h. crashed_front t.ended (map ev.crashed_life (lives_of site.node.state)) o h,
+    λ p h. any_front p t.ended (map ev.crashed_life (lives_of site.node.state)) h,
   )
     where
       go : (o : LogOwner) → (is_crashed_life t.ended o ≡ true) ⊎ (o.client ≡ c) → (is_crashed_life t.ended o ≡ true) ⊎ Crashes e o

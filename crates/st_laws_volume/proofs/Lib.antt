@@ -16,6 +16,7 @@ pub mod ChangeLines
 pub mod ClientAnswers
 pub mod CommandBlocks
 pub mod CommandServers
+pub mod CrashedLives
 pub mod CutEffects
 pub mod CutLines
 pub mod CutNotes

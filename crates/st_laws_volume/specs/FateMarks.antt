@@ -1,5 +1,5 @@
 -- What entries of the volume remember: that their client crashed, and which failed write carried them.
-use Rattle.std.specs.Prelude.{◌≡◌, ◌≤◌, ℕ, ◌+◌, Bool, true, false, ◌&&◌, List, [], ◌∷◌, ◌++◌, slice_get, Some, ⊤}
+use Rattle.std.specs.Prelude.{◌≡◌, ◌≤◌, ◌<◌, find, ℕ, ◌+◌, Bool, true, false, ◌&&◌, List, [], ◌∷◌, ◌++◌, slice_get, Some, ⊤}
 use Rattle.std.specs.List.{list_any}
 use Rattle.st_rules.specs.declared.log.Fate.TheVariants as fates
 use Rattle.st_rules.specs.declared.log.LogEntry.{LogEntry}
@@ -7,9 +7,10 @@ use Rattle.st_rules.specs.declared.log.LogOwner.{LogOwner}
 use Rattle.st_rules.specs.declared.world.Carried.{Carried}
 use Rattle.st_rules.specs.declared.world.IssuedCommand.{IssuedCommand}
 use Rattle.st_rules.specs.declared.world.LeaseLife.{LeaseLife}
+use Rattle.st_rules.specs.ClientState.{Association, is_at}
 use Rattle.st_rules.specs.Events.{is_change, is_of_life_over, last_write}
 use Rattle.st_rules.specs.Safety.{Promise, Step, reports_failure}
-use Rattle.st_rules.specs.World.{World, numbered}
+use Rattle.st_rules.specs.World.{World, WorldClient, numbered, site_of}
 use Rattle.st_laws_volume.specs.Options.{OnSome}
 use Rattle.st_laws_volume.specs.Witness.{led_by, led_to}
 use Rattle.st_volume.specs.Pages.{Entry}
@@ -37,6 +38,29 @@ AreMarked ended (o ∷ os) (e ∷ es) =
 abbrev pub CrashesAreMarked : Promise
 CrashesAreMarked past x =
     OnSome (λ v. AreMarked x.after.world.ended x.after.world.log v.log) (led_by (led_to past x) x).volume
+
+-- Marked entries are of lives that are over: of an earlier life than the present one of a client that runs.
+abbrev pub IsPast : World → LogOwner → Type 0
+IsPast w o =
+    (site : WorldClient) (a : Association)
+    → site_of w o.client ≡ Some site
+    → site.node.running ≡ true
+    → find (is_at o.file.server) site.node.state.associations ≡ Some a
+    → o.life.0 < a.life.0
+
+-- each write and patch that is marked, by its place in both logs
+abbrev pub ArePast : World → List LogEntry → List Entry → Type 0
+ArePast w os es =
+    (n : ℕ) (o : LogEntry) (e : Entry)
+    → slice_get os n ≡ Some o
+    → slice_get es n ≡ Some e
+    → is_change o ≡ true
+    → e.crashed ≡ true
+    → IsPast w o.of
+
+-- Crashed entries are past: after every event, if the volume has taken the steps of all events so far.
+abbrev pub CrashedEntriesArePast : Promise
+CrashedEntriesArePast past x = OnSome (λ v. ArePast x.after.world x.after.world.log v.log) (led_by (led_to past x) x).volume
 
 -- Failed writes: a pending entry of a life that no crash ended remembers the last write of its page by that life, if this write carried the entry,
 -- or carried it along, and was reported failed. Writes go by their clients' own numbers.

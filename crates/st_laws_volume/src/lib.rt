@@ -8,7 +8,7 @@ ghost use Rattle.st_laws_volume.specs.AskedAsks.{AsksAreAsAsked};
 ghost use Rattle.st_laws_volume.specs.Asks.{AsksAgree};
 ghost use Rattle.st_laws_volume.specs.Effects.{ChangesFindTheirFiles, ChangesTakeEffect, MappedFilesExist};
 ghost use Rattle.st_laws_volume.specs.Epochs.{EpochsAgree};
-ghost use Rattle.st_laws_volume.specs.FateMarks.{CrashesAreMarked, FailedWritesAreRemembered};
+ghost use Rattle.st_laws_volume.specs.FateMarks.{CrashedEntriesArePast, CrashesAreMarked, FailedWritesAreRemembered};
 ghost use Rattle.st_laws_volume.specs.Fates.{StillEventsAreTaken};
 ghost use Rattle.st_laws_volume.specs.HardFiles.{HardFilesAreClean};
 ghost use Rattle.st_laws_volume.specs.StepKinds.{AnswersAreToOpenAsks, EntriesAreTold, KindsAreEnough, StepsAreTaken, is_ask, is_change_line, is_failed_write, is_fate, is_free, is_hard_answer, is_line, is_written};
@@ -73,6 +73,13 @@ pub fn asks_are_as_asked()
 /// of a life that a crash ended remembers that its client crashed since.
 pub fn crashes_are_marked()
     ensures { InEveryRun CrashesAreMarked }
+{}
+
+/// In every run, after every event up to which the volume has taken the steps: each write and patch
+/// that remembers that its client crashed since is of an earlier life than the present one of that
+/// client, if it runs.
+pub fn crashed_entries_are_past()
+    ensures { InEveryRun CrashedEntriesArePast }
 {}
 
 /// In every run, after every event up to which the volume has taken the steps: each pending entry
