@@ -44,6 +44,7 @@ pub mod FullAnswers
 pub mod HardAnswers
 pub mod HardFiles
 pub mod KeptResults
+pub mod LatePages
 pub mod LineOrder
 pub mod LogEntries
 pub mod LogLines

@@ -1,8 +1,9 @@
 -- What entries that are dropped remember, and what their client still owes of them.
-use Rattle.std.specs.Prelude.{◌≡◌, ℕ, ◌⊎◌, Bool, true, false, ◌++◌, List, [], ◌∷◌, find, slice_get, Some}
+use Rattle.std.specs.Prelude.{◌≡◌, ◌≤◌, ℕ, ◌⊎◌, Bool, true, false, ◌++◌, List, [], ◌∷◌, find, slice_get, Some}
 use Rattle.std.specs.List.{list_any}
 use Rattle.st_base.specs.declared.ids.ClientId.{ClientId}
 use Rattle.st_base.specs.declared.ids.NodeId.TheVariants as nodes
+use Rattle.st_base.specs.declared.ids.PageNo.{PageNo}
 use Rattle.st_base.specs.declared.ids.ServerId.{ServerId}
 use Rattle.st_promises.specs.Losses.{owed}
 use Rattle.st_rules.specs.declared.client.LostPage.{LostPage}
@@ -15,6 +16,7 @@ use Rattle.st_rules.specs.Events.{is_change}
 use Rattle.st_rules.specs.FlatLog.{counts}
 use Rattle.st_rules.specs.Safety.{Promise}
 use Rattle.st_rules.specs.World.{World, WorldClient, clock_of, site_of}
+use Rattle.st_lemmas.specs.Lists.{Has}
 use Rattle.st_laws_steps.specs.Client.Losses.{is_ended}
 use Rattle.st_laws_volume.specs.Options.{OnSome}
 use Rattle.st_laws_volume.specs.Witness.{led_by, led_to}
@@ -31,6 +33,23 @@ pub record IsLate (w : World) (o : LogOwner) : Type 0 where
   pub over : is_ended site.node.state.config (clock_of w (nodes.Client o.client)) a.session ≡ true
   pub page : DirtyPage
   pub dirty : dirty_of a.store.pages o.file.ino o.page ≡ Some page
+
+-- Late pages have failed: a page that is dirty at a client whose lease is over has a command that failed, with a number from 1 up.
+abbrev pub LateFailed : World → Type 0
+LateFailed w =
+    (c : ClientId) (site : WorldClient)
+    → site_of w c ≡ Some site
+    → site.node.running ≡ true
+    → (a : Association)
+    → Has a site.node.state.associations
+    → is_ended site.node.state.config (clock_of w (nodes.Client c)) a.session ≡ true
+    → (ino : ℕ) (p : PageNo) (d : DirtyPage)
+    → dirty_of a.store.pages ino p ≡ Some d
+    → (n : ℕ) × ((d.failed ≡ Some n) × (1 ≤ n))
+
+-- after every event
+abbrev pub LatePagesHaveFailed : Promise
+LatePagesHaveFailed past x = LateFailed x.after.world
 
 -- a page is among those that are owed
 abbrev pub is_owed : (ClientId → ServerId → List LostPage) → LogOwner → Bool
