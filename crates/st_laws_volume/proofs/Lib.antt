@@ -22,6 +22,7 @@ pub mod CutLines
 pub mod CutNotes
 pub mod CutsTold
 pub mod DirtyAfterHard
+pub mod DirtyOnce
 pub mod DiskFaults
 pub mod EntriesTold
 pub mod EpochSteps

@@ -1,5 +1,5 @@
 -- What entries that are dropped remember, and what their client still owes of them.
-use Rattle.std.specs.Prelude.{◌≡◌, ◌≤◌, ℕ, ◌⊎◌, Bool, true, false, ◌++◌, List, [], ◌∷◌, find, slice_get, Some}
+use Rattle.std.specs.Prelude.{◌≡◌, ◌≤◌, ℕ, ◌⊎◌, Bool, true, false, ◌++◌, List, [], ◌∷◌, find, slice_get, Some, ⊤}
 use Rattle.std.specs.List.{list_any}
 use Rattle.st_base.specs.declared.ids.ClientId.{ClientId}
 use Rattle.st_base.specs.declared.ids.NodeId.TheVariants as nodes
@@ -10,7 +10,7 @@ use Rattle.st_rules.specs.declared.client.LostPage.{LostPage}
 use Rattle.st_rules.specs.declared.log.LogEntry.{LogEntry}
 use Rattle.st_rules.specs.declared.log.LogOwner.{LogOwner}
 use Rattle.st_rules.specs.declared.pages.DirtyPage.{DirtyPage}
-use Rattle.st_rules.specs.ClientPages.{dirty_of, is_lost_of}
+use Rattle.st_rules.specs.ClientPages.{dirty_of, is_dirty_of, is_lost_of}
 use Rattle.st_rules.specs.ClientState.{Association, is_at}
 use Rattle.st_rules.specs.Events.{is_change}
 use Rattle.st_rules.specs.FlatLog.{counts}
@@ -50,6 +50,24 @@ LateFailed w =
 -- after every event
 abbrev pub LatePagesHaveFailed : Promise
 LatePagesHaveFailed past x = LateFailed x.after.world
+
+-- Dirty pages are there once.
+abbrev pub IsOnce : List DirtyPage → Type 0
+IsOnce [] = ⊤
+IsOnce (d ∷ ds) = ((x : DirtyPage) → Has x ds → is_dirty_of d.ino d.page x ≡ false) × IsOnce ds
+
+-- at each association of each client
+abbrev pub AllOnce : World → Type 0
+AllOnce w =
+    (c : ClientId) (site : WorldClient)
+    → site_of w c ≡ Some site
+    → (a : Association)
+    → Has a site.node.state.associations
+    → IsOnce a.store.pages.dirty
+
+-- after every event
+abbrev pub PagesAreOnce : Promise
+PagesAreOnce past x = AllOnce x.after.world
 
 -- a page is among those that are owed
 abbrev pub is_owed : (ClientId → ServerId → List LostPage) → LogOwner → Bool

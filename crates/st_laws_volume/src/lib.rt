@@ -14,7 +14,7 @@ ghost use Rattle.st_laws_volume.specs.HardFiles.{HardFilesAreClean};
 ghost use Rattle.st_laws_volume.specs.StepKinds.{AnswersAreToOpenAsks, EntriesAreTold, KindsAreEnough, StepsAreTaken, is_ask, is_change_line, is_failed_write, is_fate, is_free, is_hard_answer, is_line, is_written};
 ghost use Rattle.st_laws_volume.specs.Laws.{RunsInParts, StepsShowTheEvent, TheStartAgrees};
 ghost use Rattle.st_laws_volume.specs.Logs.{InEveryRun, LogsAgree};
-ghost use Rattle.st_laws_volume.specs.LossMarks.{LatePagesHaveFailed, LossesAreMet};
+ghost use Rattle.st_laws_volume.specs.LossMarks.{LatePagesHaveFailed, LossesAreMet, PagesAreOnce};
 ghost use Rattle.st_laws_volume.specs.Notices.{AsksHaveNoticed};
 ghost use Rattle.st_laws_volume.specs.Reads.{PagesAgree, ReadsGiveThePages};
 ghost use Rattle.st_laws_volume.specs.Requests.{RequestsAreForTheirAsks, RequestsFindNone, RequestsHaveAsks, RequestsHaveEffects, RequestsTakeEffectInOrder};
@@ -254,6 +254,11 @@ pub fn losses_are_told_whole()
 /// command that failed. Its number is what will be owed of the page.
 pub fn late_pages_have_failed()
     ensures { InEveryRun LatePagesHaveFailed }
+{}
+
+/// In every run, after every event: no page is dirty twice at a client.
+pub fn pages_are_once()
+    ensures { InEveryRun PagesAreOnce }
 {}
 
 /// In every run, if a sync is answered `hard`, each page of its file that is dirty after that event
