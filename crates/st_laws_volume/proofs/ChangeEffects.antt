@@ -740,7 +740,7 @@ effects_on past t e sc it f g h =
       },
     )
 
-rising_begins : (k : Config) (clients servers disks blocks form : ℕ) (c : ClientId) →
+pub rising_begins : (k : Config) (clients servers disks blocks form : ℕ) (c : ClientId) →
     Rising (at_site (site_of (fresh_world k clients servers disks blocks form) c))
 rising_begins k clients servers disks blocks form c =
     subst Rising (sym (fresh_asks k clients servers disks blocks form c))

@@ -63,7 +63,8 @@ is_at_page : (ino : ℕ) (p : PageNo) (y : DirtyPage) → pages.is_dirty_of ino 
 is_at_page ino p y e =
     let z = and_true (y.ino == ino) (y.page.0 == p.0) e in (eqb-true y.ino ino z.0, ap (λ n. record { 0 = n }) (eqb-true y.page.0 p.0 z.1))
 
-put_once : (ino : ℕ) (p : PageNo) (new : DirtyPage) → new.ino ≡ ino → new.page ≡ p → (ds : List DirtyPage) → IsOnce ds → IsOnce (put (pages.is_dirty_of ino p) new ds)
+put_once : (ino : ℕ) (p : PageNo) (new : DirtyPage) → new.ino ≡ ino → new.page ≡ p → (ds : List DirtyPage) → IsOnce ds →
+    IsOnce (put (pages.is_dirty_of ino p) new ds)
 unfolding put
 put_once ino p new i q [] h = (λ x j. absurd j, tt)
 put_once ino p new i q (y ∷ ys) h = go (pages.is_dirty_of ino p y) refl (put_once ino p new i q ys h.1)
@@ -367,7 +368,8 @@ module _ (w : World) (l : LivesHold w) (h : AllOnce w) where
           (told n ok d q (issued_of w (suc n)) refl)
 
   happens_once : (e : Event) → adm.refusal w e ≡ None → AllOnce (ev.happens w e).world
-  unfolding ev.happens ev.ticks ev.asks_at ev.delivers ev.delivers_to ev.loses_message ev.marks ev.effects ev.advances ev.crashes ev.crashes_client ev.crashes_server ev.starts ev.starts_client ev.starts_server
+  unfolding ev.happens ev.ticks ev.asks_at ev.delivers ev.delivers_to ev.loses_message ev.marks ev.effects ev.advances ev.crashes ev.crashes_client
+      ev.crashes_server ev.starts ev.starts_client ev.starts_server
   happens_once (events.Tick (nodes.Client c)) r = at_client c inputs.Tick (site_of w c) refl
   happens_once (events.Tick (nodes.Server s)) r = at_server w s serving.Tick (node_of w s) h
   happens_once (events.App c ask) r = go (site_of w c) refl

@@ -80,6 +80,8 @@ pub mod RequestGrants
 pub mod RequestResults
 pub mod ResultsAtAnswers
 pub mod ResultsStay
+pub mod SentOrder
+pub mod SentRequests
 pub mod ServedEffects
 pub mod ServedEnds
 pub mod ServedFiles
@@ -102,5 +104,6 @@ pub mod TreeWorld
 pub mod Trees
 pub mod UncertainAnswers
 pub mod UnservedAsks
+pub mod WaitingChanges
 pub mod WriteOrder
 pub mod WrittenAnswers

@@ -141,9 +141,9 @@ fates_order w n (e ∷ es) (f ∷ fs) = go e.fate f.fate (fates_order w (n + 1) 
     go (fates.Gone cause) y h = h
 
 -- What is taken at an event is what is seen of it.
-record Came (t : World) (e : Event) (x : Taking) : Type 0 where
-  its : (a : AsksOf) → a ≡ at_site (site_of t x.client) → (told_all x.client (of_event t e) a).pending ≡ a.pending ++ coming x.input
-  number : (op : ℕ) (ask : Ask) → x.input ≡ inputs.App op ask → op ≡ (at_site (site_of t x.client)).count + 1
+pub record Came (t : World) (e : Event) (x : Taking) : Type 0 where
+  pub its : (a : AsksOf) → a ≡ at_site (site_of t x.client) → (told_all x.client (of_event t e) a).pending ≡ a.pending ++ coming x.input
+  pub number : (op : ℕ) (ask : Ask) → x.input ≡ inputs.App op ask → op ≡ (at_site (site_of t x.client)).count + 1
 
 came_plain : (t : World) (e : Event) (x : Taking) → Dull t e → coming x.input ≡ [] → ((op : ℕ) (ask : Ask) → x.input ≡ inputs.App op ask → ⊥) → Came t e x
 came_plain t e x d c n =
@@ -223,7 +223,7 @@ came_report t k ok (Some y) x q = at (site_of t y.client) q
             (came_plain t (events.Report k ok) (record { world = v; client = y.client; input = ev.end_told v k ok y; site = site }) (report_dull t k ok) refl
             (end_no v k ok y))
 
-came : (t : World) (e : Event) (x : Taking) → taken (ev.counted t) e ≡ Some x → Came t e x
+pub came : (t : World) (e : Event) (x : Taking) → taken (ev.counted t) e ≡ Some x → Came t e x
 came t (events.Tick (nodes.Client c)) x q = came_tick t c (site_of t c) x q
 came t (events.App c ask) x q = came_ask t c ask (site_of t c) x refl q
 came t (events.Deliver k) x q = came_message t k (message_of t k) x q

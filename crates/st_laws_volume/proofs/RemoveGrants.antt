@@ -1,22 +1,26 @@
 -- A step of a client: an operation waits for a reply as before, or was just sent; and then a remove that means a file names the lock of it.
 use Rattle.st_lemmas.proofs.Words
-use Words.{◌≡◌, ◌⊎◌, ℕ, Bool, true, false, not, ◌==◌, List, [], ◌∷◌, ◌++◌, Option, Some, None, refl, sym, ap, ◌∙◌, subst, inl, inr, if◌then◌else◌}
-use Words.{filter, map, eqb-true, Ask, Body, ClientInput, GrantNo, Header, NameAsk, Operation, PageNo, Request, ServerId, Stamp, Tag, AppAnswer, Why}
+use Words.{◌≡◌, ◌⊎◌, ℕ, ◌<◌, ◌≤◌, arith, Bool, true, false, not, ◌&&◌, ◌||◌, ◌==◌, List, [], ◌∷◌, ◌++◌, Option, Some, None, refl, sym, ap, ◌∙◌, subst, inl, inr, if◌then◌else◌}
+use Words.{append-nil, append_assoc, filter, is_some, list_any, map, eqb-true, Stage, Ask, Body, ClientInput, GrantNo, Header, NameAsk, Operation, PageNo, Request, ServerId, Stamp, Tag, AppAnswer, Why}
 use Words.answers
 use Words.asks
 use Words.bodies
 use Words.inputs
+use Words.io
+use Words.modes
 use Words.ops
 use Words.stages
 use Words.Client as cl
+use Words.ClientLocks as locks
 use Words.ClientPages as pages
 use Words.ClientPasses as cp
 use Words.ClientReplies as cr
 use Words.ClientState as cs
 use Words.ClientState.{Association, ClientSession, ClientState, ClientTurn, Turn, at_each, at_these, client_turn, enter, leave, only_at, server_of, with_associations, with_operations}
 use Words.Lists.{Has}
-use Words.Members.{has_left, has_right}
-use Words.Tables.{and_true, cond_either, has_append, has_filter, has_map}
+use Words.Lookups.{some_is}
+use Words.Members.{has_left, has_middle, has_right, some_member_passes}
+use Words.Tables.{and_both, and_true, cond_either, some_passes, has_append, has_filter, has_map}
 use Words.Truth.{clash, exclusive_covers}
 use Rattle.st_base.specs.declared.names.NameAsk.TheVariants as names
 use Rattle.st_trace.specs.Client.Commands as ends
@@ -33,8 +37,14 @@ use Rattle.st_trace.specs.Client.Requests.{Greets, Requests, Wants}
 use Rattle.st_trace.proofs.Client.Finishing.{at_server, finishes, takes}
 use Rattle.st_trace.proofs.Client.Losing.{loses}
 use Rattle.st_trace.proofs.Client.Receiving.{receives}
-use Rattle.st_trace.proofs.Client.Walk.{each_lasts, passes}
+use Rattle.st_trace.proofs.Client.Operating.{operations}
+use Rattle.st_trace.proofs.Client.Requesting.{greets, requests}
+use Rattle.st_trace.proofs.Client.Walk.{each_lasts, reductions, writes}
 use Rattle.st_laws_steps.specs.Client.Session.{HasExclusive}
+use Rattle.st_laws_volume.specs.SentOrder.{AllOrdered, Fine, Ordered}
+use Rattle.st_laws_volume.proofs.SentOrder.{NoneWaits, fine, kind_of}
+use Rattle.st_laws_volume.proofs.WaitingChanges.{Busy, Rest, after_operations, begun_busy, not_idle}
+use Rattle.st_volume.specs.Volume.{is_cut_or_name, is_sooner}
 
 -- A remove that means a file is sent under the exclusive lock of it.
 abbrev pub IsUnder : ClientSession → Ask → Body → Type 0
@@ -55,90 +65,147 @@ pub record JustSent (a : Association) (ask : Ask) : Type 0 where
   pub server : (server_of ask).0 ≡ a.server.0
   pub under : IsUnderIn a.session ask
 
--- What becomes of operations: each comes from one that waited if it waits, or has come and does not wait.
+-- What becomes of operations: each comes from one that was there, waits only if that did, and was sent if that was.
 pub record From (os : List Operation) (p : Operation) : Type 0 where
   pub o : Operation
   pub there : Has o os
   pub op : o.op ≡ p.op
   pub ask : o.ask ≡ p.ask
   pub asked : cs.is_asked_at p.stage ≡ true → cs.is_asked_at o.stage ≡ true
+  pub sent : cs.is_sent p ≡ cs.is_sent o
 
-abbrev Come : List Operation → List Operation → Type 0
-Come os ps = (p : Operation) → Has p ps → From os p ⊎ (cs.is_asked_at p.stage ≡ false)
+abbrev pub AllFrom : List Operation → List Operation → Type 0
+AllFrom os ps = (p : Operation) → Has p ps → From os p
 
 same_one : (os : List Operation) (p : Operation) → Has p os → From os p
-same_one os p i = record { o = p; there = i; op = refl; ask = refl; asked = λ e. e }
+same_one os p i = record { o = p; there = i; op = refl; ask = refl; asked = λ e. e; sent = refl }
 
-come_same : (os : List Operation) → Come os os
-come_same os p i = inl (same_one os p i)
+all_same : (os : List Operation) → AllFrom os os
+all_same os p i = same_one os p i
 
-come_fewer : (os : List Operation) (picked : Operation → Bool) → Come os (filter (λ o. not (picked o)) os)
-come_fewer os picked p i = inl (same_one os p (has_filter (λ o. not (picked o)) os p i).0)
+from_then : (os ps : List Operation) → AllFrom os ps → (q : Operation) → From ps q → From os q
+from_then os ps h q f =
+    let z = h f.o f.there in
+    record { o = z.o; there = z.there; op = z.op ∙ f.op; ask = z.ask ∙ f.ask; asked = λ e. z.asked (f.asked e); sent = f.sent ∙ z.sent }
 
-from_then : (os ps : List Operation) → Come os ps → (q : Operation) → From ps q → From os q ⊎ (cs.is_asked_at q.stage ≡ false)
-from_then os ps h q f = go (h f.o f.there)
+-- Operations whose numbers don't fall.
+abbrev pub Sorted : List Operation → Type 0
+Sorted [] = Unit {0}
+Sorted (o ∷ os) = ((p : Operation) → Has p os → o.op ≤ p.op) × Sorted os
+
+sorted_filter : (os : List Operation) (f : Operation → Bool) → Sorted os → Sorted (filter f os)
+sorted_filter [] f h = tt
+sorted_filter (o ∷ os) f h = go (f o) (sorted_filter os f h.1)
   where
-    go : From os f.o ⊎ (cs.is_asked_at f.o.stage ≡ false) → From os q ⊎ (cs.is_asked_at q.stage ≡ false)
-    go (inl z) = inl (record { o = z.o; there = z.there; op = z.op ∙ f.op; ask = z.ask ∙ f.ask; asked = λ e. z.asked (f.asked e) })
-    go (inr n) = inr (off (cs.is_asked_at q.stage) refl)
+    go : (b : Bool) → Sorted (filter f os) → Sorted (if b then o ∷ filter f os else filter f os)
+    go true rest = (λ p i. h.0 p (has_filter f os p i).0, rest)
+    go false rest = rest
+
+sorted_map : (os : List Operation) (f : Operation → Operation) → ((o : Operation) → (f o).op ≡ o.op) → Sorted os → Sorted (map f os)
+sorted_map [] f e h = tt
+sorted_map (o ∷ os) f e h = (
+  λ p i. let z = has_map f os p i in
+      let l = h.0 z.0 z.1 in
+      let a = e o in
+      let b = ap (λ (y : Operation). y.op) z.2 ∙ e z.0 in omega (arith, l, a, b),
+  sorted_map os f e h.1,
+)
+
+sorted_last : (os : List Operation) (o : Operation) → ((p : Operation) → Has p os → p.op ≤ o.op) → Sorted os → Sorted (os ++ o ∷ [])
+sorted_last [] o l h = (λ p i. absurd i, tt)
+sorted_last (x ∷ os) o l h = (λ p i. go p (has_append os (o ∷ []) p i), sorted_last os o (λ p i. l p (inr i)) h.1)
+  where
+    go : (p : Operation) → Has p os ⊎ Has p (o ∷ []) → x.op ≤ p.op
+    go p (inl i) = h.0 p i
+    go p (inr (inl e)) = subst (λ (y : Operation). x.op ≤ y.op) (sym e) (l x (inl refl))
+    go p (inr (inr i)) = absurd i
+
+sorted_less : (xs : List Operation) (o : Operation) (ys : List Operation) → Sorted (xs ++ o ∷ ys) → Sorted (xs ++ ys)
+sorted_less [] o ys h = h.1
+sorted_less (x ∷ xs) o ys h = (λ p i. h.0 p (has_middle o p xs ys i), sorted_less xs o ys h.1)
+
+sorted_after : (xs : List Operation) (o : Operation) (ys : List Operation) → Sorted (xs ++ o ∷ ys) → (p : Operation) → Has p ys → o.op ≤ p.op
+sorted_after [] o ys h p i = h.0 p i
+sorted_after (x ∷ xs) o ys h p i = sorted_after xs o ys h.1 p i
+
+sorted_put : (xs : List Operation) (o q : Operation) (ys : List Operation) → q.op ≡ o.op → Sorted (xs ++ o ∷ ys) → Sorted (xs ++ q ∷ ys)
+sorted_put [] o q ys e h = (λ p i. let l = h.0 p i in omega (arith, l, e), h.1)
+sorted_put (x ∷ xs) o q ys e h = (λ p i. go p (has_append xs (q ∷ ys) p i), sorted_put xs o q ys e h.1)
+  where
+    go : (p : Operation) → Has p xs ⊎ Has p (q ∷ ys) → x.op ≤ p.op
+    go p (inl i) = h.0 p (has_left xs (o ∷ ys) p i)
+    go p (inr (inl k)) =
+        let l = h.0 o (has_right xs (o ∷ ys) o (inl refl)) in let z = ap (λ (y : Operation). y.op) k in omega (arith, l, e, z)
+    go p (inr (inr i)) = h.0 p (has_right xs (o ∷ ys) p (inr i))
+
+-- A rule at one server that sends nothing, and takes no ask.
+pub record KeptIn (os ps : List Operation) : Type 0 where
+  pub from : AllFrom os ps
+  pub sorted : Sorted os → Sorted ps
+
+kept_same : (os : List Operation) → KeptIn os os
+kept_same os = record { from = all_same os; sorted = λ h. h }
+
+kept_then : (os ps qs : List Operation) → KeptIn os ps → KeptIn ps qs → KeptIn os qs
+kept_then os ps qs h k = record { from = λ q i. from_then os ps h.from q (k.from q i); sorted = λ z. k.sorted (h.sorted z) }
+
+kept_stuck : (t : Turn) → KeptIn t.operations (map (cr.stuck t) t.operations)
+kept_stuck t =
+    record {
+      from =
+          λ p i. let z = has_map (cr.stuck t) t.operations p i in subst (From t.operations) (sym z.2) (one z.0 z.1 (cs.is_asked t.here.server z.0) refl);
+      sorted = sorted_map t.operations (cr.stuck t) (λ o. number o (cs.is_asked t.here.server o));
+    }
+  where
+    number : (o : Operation) (b : Bool) → (if b then cs.at_stage stages.Stuck o else o).op ≡ o.op
+    number o true = refl
+    number o false = refl
+
+    was : (o : Operation) → cs.is_asked t.here.server o ≡ true → cs.is_sent o ≡ true
+    was o e = go o.stage (and_true (cs.is_of t.here.server o) (cs.is_asked_at o.stage) e).1
       where
-        off : (b : Bool) → cs.is_asked_at q.stage ≡ b → cs.is_asked_at q.stage ≡ false
-        off true e = clash (f.asked e) n
-        off false e = e
+        go : (g : Stage) → cs.is_asked_at g ≡ true → cs.is_sent_at g ≡ true
+        go stages.Sent e = refl
+        go stages.Unsent e = cc e
+        go stages.Stuck e = refl
 
-come_then : (os ps qs : List Operation) → Come os ps → Come ps qs → Come os qs
-come_then os ps qs h k q i = go (k q i)
-  where
-    go : From ps q ⊎ (cs.is_asked_at q.stage ≡ false) → From os q ⊎ (cs.is_asked_at q.stage ≡ false)
-    go (inl f) = from_then os ps h q f
-    go (inr n) = inr n
+    no : cs.is_asked_at stages.Stuck ≡ true → ⊥
+    no e = cc e
 
-come_stuck : (t : Turn) → Come t.operations (map (cr.stuck t) t.operations)
-come_stuck t p i = let z = has_map (cr.stuck t) t.operations p i in subst (λ y. From t.operations y ⊎ (cs.is_asked_at y.stage ≡ false)) (sym z.2) (one z.0 z.1)
-  where
-    one : (o : Operation) → Has o t.operations → From t.operations (cr.stuck t o) ⊎ (cs.is_asked_at (cr.stuck t o).stage ≡ false)
-    one o j = go (cs.is_asked t.here.server o)
-      where
-        go : (b : Bool) → From t.operations (if b then cs.at_stage stages.Stuck o else o) ⊎ (cs.is_asked_at (if b then cs.at_stage stages.Stuck o else o).stage ≡ false)
-        go true = inr refl
-        go false = inl (same_one t.operations o j)
+    one : (o : Operation) → Has o t.operations → (b : Bool) → cs.is_asked t.here.server o ≡ b → From t.operations (if b then cs.at_stage stages.Stuck o else o)
+    one o j true e = record { o = o; there = j; op = refl; ask = refl; asked = λ q. absurd (no q); sent = sym (was o e) }
+    one o j false e = same_one t.operations o j
 
--- an operation that came does not wait
-come_new : (os : List Operation) (op : ℕ) (ask : Ask) → Come os (os ++ cs.new_operation op ask ∷ [])
-come_new os op ask p i = go (has_append os (cs.new_operation op ask ∷ []) p i)
-  where
-    go : Has p os ⊎ Has p (cs.new_operation op ask ∷ []) → From os p ⊎ (cs.is_asked_at p.stage ≡ false)
-    go (inl j) = inl (same_one os p j)
-    go (inr (inl e)) = inr (ap (λ (y : Operation). cs.is_asked_at y.stage) e)
-    go (inr (inr j)) = absurd j
-
--- A rule at one server.
 abbrev Kept : Turn → Turn → Type 0
-Kept t u = Come t.operations u.operations
+Kept t u = KeptIn t.operations u.operations
 
 kept_answers : (t : Turn) (picked : Operation → Bool) (a : AppAnswer) → Kept t (cs.answer_each picked a t)
 unfolding cs.answer_each
-kept_answers t picked a = come_fewer t.operations picked
+kept_answers t picked a =
+    record {
+      from = λ p i. same_one t.operations p (has_filter (λ o. not (picked o)) t.operations p i).0;
+      sorted = sorted_filter t.operations (λ o. not (picked o));
+    }
 
 refused : (t : Turn) (file : Option ℕ) (asked : Body) (y : Why) (a b : ℕ) (u : Turn) → Refusal t file asked y a b u → Kept t u
 refused t file asked _ a b _ (trace.NoFile _ _ ino e) = kept_answers t _ _
 refused t file asked _ a b _ (trace.TooManyLocks _ _ ino e) = kept_answers t _ _
 refused t file asked _ a b _ (trace.NoSpace _ _ ino p e q) = kept_answers t _ _
 refused t file asked _ a b _ (trace.NotHolder _ _ e) = kept_answers t _ _
-refused t file asked y a b _ (trace.AnswersNone _ _ _) = come_same t.operations
+refused t file asked y a b _ (trace.AnswersNone _ _ _) = kept_same t.operations
 
 has_effect : (now : Stamp) (t : Turn) (s : ClientSession) (file : Option ℕ) (asked b : Body) (u : Turn) → Effect now t s file asked b u → Kept t u
-has_effect now t s file asked _ _ (trace.IsGranted ino g mode v k) = come_same t.operations
-has_effect now t s file asked _ _ (trace.IsQueued ino mode e) = come_same t.operations
-has_effect now t s file asked _ _ (trace.HoldsAlready ino mode e) = come_same t.operations
-has_effect now t s file asked _ _ (trace.IsToldExtents ino rows e) = come_same t.operations
-has_effect now t s file asked _ _ (trace.IsToldLate ino rows e) = come_same t.operations
+has_effect now t s file asked _ _ (trace.IsGranted ino g mode v k) = kept_same t.operations
+has_effect now t s file asked _ _ (trace.IsQueued ino mode e) = kept_same t.operations
+has_effect now t s file asked _ _ (trace.HoldsAlready ino mode e) = kept_same t.operations
+has_effect now t s file asked _ _ (trace.IsToldExtents ino rows e) = kept_same t.operations
+has_effect now t s file asked _ _ (trace.IsToldLate ino rows e) = kept_same t.operations
 has_effect now t s file asked _ _ trace.IsAcknowledged = kept_answers t _ _
 has_effect now t s file asked _ _ (trace.IsNamed r k) = kept_answers t _ _
 has_effect now t s file asked _ _ (trace.IsRemoved ino removed l e q) = kept_answers t _ _
-has_effect now t s file asked _ _ trace.IsReasserted = come_same t.operations
+has_effect now t s file asked _ _ trace.IsReasserted = kept_same t.operations
 has_effect now t s file asked _ _ (trace.Effect.IsRefused y a b u r) =
-    come_then t.operations u.operations (map (cr.stuck u) u.operations) (refused t file asked y a b u r) (come_stuck u)
+    kept_then t.operations u.operations (map (cr.stuck u) u.operations) (refused t file asked y a b u r) (kept_stuck u)
 
 renewed : (t : Turn) (s : ClientSession) (stamp : Stamp) (u : Turn) → Renews t s stamp u → u.operations ≡ t.operations
 renewed t s stamp _ (trace.IsLater e) = refl
@@ -146,16 +213,16 @@ renewed t s stamp _ (trace.IsNoLater e) = refl
 
 heard : (now : Stamp) (h : Header) (t : Turn) (b : Body) (u : Turn) → Receives now h t b u → Kept t u
 unfolding cs.send
-heard now h t _ _ (trace.PassesOver b) = come_same t.operations
-heard now h t _ _ (trace.Begins r e i) = come_same t.operations
+heard now h t _ _ (trace.PassesOver b) = kept_same t.operations
+heard now h t _ _ (trace.Begins r e i) = kept_same t.operations
 heard now h t _ _ (trace.FollowsEpoch s x y m e) = kept_answers (cs.with_session (cr.in_epoch (trace.epoch_of h) s) t) _ _
-heard now h t _ _ (trace.IsCondemned b s m c) = come_same t.operations
-heard now h t _ _ (trace.IsGrantedLater ino g mode s v m e k) = come_same t.operations
-heard now h t _ _ (trace.SeesDemand ino g to s m e) = come_same t.operations
-heard now h t _ _ (trace.GivesUp ino g to s m e k) = come_same t.operations
-heard now h t _ _ (trace.HasGivenUp ino g to s m e k) = come_same t.operations
+heard now h t _ _ (trace.IsCondemned b s m c) = kept_same t.operations
+heard now h t _ _ (trace.IsGrantedLater ino g mode s v m e k) = kept_same t.operations
+heard now h t _ _ (trace.SeesDemand ino g to s m e) = kept_same t.operations
+heard now h t _ _ (trace.GivesUp ino g to s m e k) = kept_same t.operations
+heard now h t _ _ (trace.HasGivenUp ino g to s m e k) = kept_same t.operations
 heard now h t _ u (trace.IsAnswered b s q v _ r x f) =
-    subst (λ os. Come os u.operations) (renewed t s (trace.stamp_of h) v x)
+    subst (λ os. KeptIn os u.operations) (renewed t s (trace.stamp_of h) v x)
     (has_effect now (cs.with_session (cr.ended_by (trace.stamp_of h) s) v) (cr.ended_by (trace.stamp_of h) s) (cs.file_asked s.cutting q.body) q.body b u f)
 
 received : (now : Stamp) (h : Header) (b : Body) (t : Turn) → Kept t (cr.receive_at now h b t)
@@ -165,42 +232,108 @@ finished : (number : ℕ) (r : Option (Option (Tag × List ℕ))) (t : Turn) →
 finished number r t = go (cl.finish number r t) (finishes number r t)
   where
     go : (u : Turn) → Finishes number r t u → Kept t u
-    go _ (ends.IsUnknown e) = come_same t.operations
-    go _ (ends.IsOfOtherKind x block o e i) = come_same t.operations
-    go _ (ends.Fills x block o i e) = come_same t.operations
-    go _ (ends.Hardens x v o i e j) = come_same t.operations
-    go _ (ends.WroteOlder x v o i e j) = come_same t.operations
+    go _ (ends.IsUnknown e) = kept_same t.operations
+    go _ (ends.IsOfOtherKind x block o e i) = kept_same t.operations
+    go _ (ends.Fills x block o i e) = kept_same t.operations
+    go _ (ends.Hardens x v o i e j) = kept_same t.operations
+    go _ (ends.WroteOlder x v o i e j) = kept_same t.operations
     go _ (ends.FailsToRead x o i e) = kept_answers (ends.without x t) _ _
     go _ (ends.FailsToWrite x v o i e j) = kept_answers (ends.with_pages (pages.fail t.here.store.pages x.ino x.page x.number) (ends.without x t)) _ _
     go _ (ends.FailsToWriteOlder x v o i e j) = kept_answers (ends.without x t) _ _
 
-took : (op : ℕ) (ask : Ask) (t : Turn) → Kept t (only_at (server_of ask) (cl.take_ask op ask) t)
-took op ask t =
-    at_server (λ u. Kept t u) (server_of ask) (cl.take_ask op ask) t (λ e. go (cl.take_ask op ask t) (takes op ask t)) (λ e. come_same t.operations)
+-- An ask that comes: its operation goes last, and was not sent.
+abbrev pub Below : ℕ → List Operation → Type 0
+Below n os = (p : Operation) → Has p os → p.op ≤ n
+
+pub record IsNew (G : Type 0) (n : ℕ) (p : Operation) : Type 0 where
+  pub unsent : cs.is_sent p ≡ false
+  pub number : G → p.op ≡ n
+
+abbrev pub Come : Type 0 → ℕ → List Operation → List Operation → Type 0
+Come G n os ps = (p : Operation) → Has p ps → From os p ⊎ IsNew G n p
+
+-- what holds before the passes
+record Ok (G : Type 0) (n : ℕ) (start os : List Operation) : Type 0 where
+  come : Come G n start os
+  sorted : G → Sorted os
+  below : G → Below n os
+
+ok_then : (G : Type 0) (n : ℕ) (start os ps : List Operation) → Ok G n start os → KeptIn os ps → Ok G n start ps
+ok_then G n start os ps h k =
+    record {
+      come = λ p i. go p (k.from p i) (h.come (k.from p i).o (k.from p i).there);
+      sorted = λ y. k.sorted (h.sorted y);
+      below = λ y p i. let z = k.from p i in let l = h.below y z.o z.there in let e = z.op in omega (arith, l, e);
+    }
   where
-    go : (u : Turn) → Takes op ask t u → Kept t u
-    go _ (ends.TellsLost f e l) = come_same t.operations
-    go _ (ends.WaitsForSync f e l) = come_new t.operations op ask
-    go _ (ends.Waits e) = come_new t.operations op ask
+    go : (p : Operation) (f : From os p) → From start f.o ⊎ IsNew G n f.o → From start p ⊎ IsNew G n p
+    go p f (inl z) =
+        inl (record { o = z.o; there = z.there; op = z.op ∙ f.op; ask = z.ask ∙ f.ask; asked = λ e. z.asked (f.asked e); sent = f.sent ∙ z.sent })
+    go p f (inr e) = inr (record { unsent = f.sent ∙ e.unsent; number = λ y. sym f.op ∙ e.number y })
+
+took : (G : Type 0) (n : ℕ) (start : List Operation) (op : ℕ) (ask : Ask) → (G → op ≡ n) → (t : Turn) → Ok G n start t.operations →
+    Ok G n start (only_at (server_of ask) (cl.take_ask op ask) t).operations
+took G n start op ask is t h =
+    at_server (λ u. Ok G n start u.operations) (server_of ask) (cl.take_ask op ask) t (λ e. go (cl.take_ask op ask t) (takes op ask t)) (λ e. h)
+  where
+    new : Operation
+    new = cs.new_operation op ask
+
+    more : Ok G n start (t.operations ++ new ∷ [])
+    more =
+        record {
+          come = λ p i. come p (has_append t.operations (new ∷ []) p i);
+          sorted = λ y. sorted_last t.operations new (λ p i. let l = h.below y p i in let k = is y in omega (arith, l, k)) (h.sorted y);
+          below = λ y p i. below y p (has_append t.operations (new ∷ []) p i);
+        }
+      where
+        come : (p : Operation) → Has p t.operations ⊎ Has p (new ∷ []) → From start p ⊎ IsNew G n p
+        come p (inl i) = h.come p i
+        come p (inr (inl e)) = inr (record { unsent = ap cs.is_sent e; number = λ y. ap (λ (z : Operation). z.op) e ∙ is y })
+        come p (inr (inr i)) = absurd i
+
+        below : G → (p : Operation) → Has p t.operations ⊎ Has p (new ∷ []) → p.op ≤ n
+        below y p (inl i) = h.below y p i
+        below y p (inr (inl e)) = let z = ap (λ (x : Operation). x.op) e in let k = is y in omega (arith, z, k)
+        below y p (inr (inr i)) = absurd i
+
+    go : (u : Turn) → Takes op ask t u → Ok G n start u.operations
+    go _ (ends.TellsLost f e l) = h
+    go _ (ends.WaitsForSync f e l) = more
+    go _ (ends.Waits e) = more
 
 -- A pass over the operations: those so far, and those to come, were there.
 record Passing (start os : List Operation) (t : Turn) : Type 0 where
-  done : Come start t.operations
-  left : Come start os
-
-keeps : (start : List Operation) (o : Operation) (os : List Operation) (t : Turn) → Passing start (o ∷ os) t → Come start (t.operations ++ o ∷ [])
-keeps start o os t h p i = go (has_append t.operations (o ∷ []) p i)
-  where
-    go : Has p t.operations ⊎ Has p (o ∷ []) → From start p ⊎ (cs.is_asked_at p.stage ≡ false)
-    go (inl j) = h.done p j
-    go (inr (inl e)) = h.left p (inl e)
-    go (inr (inr j)) = absurd j
+  from : AllFrom start (t.operations ++ os)
+  sorted : Sorted start → Sorted (t.operations ++ os)
 
 kept_on : (start : List Operation) (o : Operation) (os : List Operation) (t u : Turn) → u.operations ≡ t.operations ++ o ∷ [] → Passing start (o ∷ os) t → Passing start os u
-kept_on start o os t u e h = record { done = subst (Come start) (sym e) (keeps start o os t h); left = λ p i. h.left p (inr i) }
+kept_on start o os t u e h =
+    record {
+      from = subst (AllFrom start) (sym q) h.from;
+      sorted = λ z. subst Sorted (sym q) (h.sorted z);
+    }
+  where
+    q : u.operations ++ os ≡ t.operations ++ o ∷ os
+    q = ap (λ ps. ps ++ os) e ∙ append_assoc t.operations (o ∷ []) os
 
 gone_on : (start : List Operation) (o : Operation) (os : List Operation) (t u : Turn) → u.operations ≡ t.operations → Passing start (o ∷ os) t → Passing start os u
-gone_on start o os t u e h = record { done = subst (Come start) (sym e) h.done; left = λ p i. h.left p (inr i) }
+gone_on start o os t u e h =
+    record {
+      from = λ p i. h.from p (has_middle o p t.operations os (subst (λ ps. Has p (ps ++ os)) e i));
+      sorted = λ z. subst (λ ps. Sorted (ps ++ os)) (sym e) (sorted_less t.operations o os (h.sorted z));
+    }
+
+passed_over : (start : List Operation) (t : Turn) → Passing start [] t → KeptIn start t.operations
+passed_over start t h =
+    record {
+      from = subst (AllFrom start) (append-nil t.operations) h.from;
+      sorted = λ z. subst Sorted (append-nil t.operations) (h.sorted z);
+    }
+
+begins_with : (start : List Operation) (t : Turn) → t.operations ≡ [] → Passing start start t
+begins_with start t e =
+    record { from = subst (λ ps. AllFrom start (ps ++ start)) (sym e) (all_same start); sorted = λ z. subst (λ ps. Sorted (ps ++ start)) (sym e) z }
 
 ended : (start : List Operation) (s : ClientSession) (o : Operation) (os : List Operation) (t u : Turn) → Ended s o t u → Passing start (o ∷ os) t → Passing start os u
 ended start s o os t _ (losing.IsElsewhere e) h = kept_on start o os t _ refl h
@@ -213,12 +346,13 @@ lost : (now : Stamp) (t : Turn) → Kept t (cl.lose now t)
 lost now t = go (cl.lose now t) (loses now t)
   where
     go : (u : Turn) → Loses now t u → Kept t u
-    go _ (losing.HasNoSession e) = come_same t.operations
-    go _ (losing.Lasts s e o) = come_same t.operations
+    go _ (losing.HasNoSession e) = kept_same t.operations
+    go _ (losing.Lasts s e o) = kept_same t.operations
     go _ (losing.IsLost s u e o p) =
+        passed_over t.operations u
         (each_lasts (Ended s) (λ os v. Passing t.operations os v) (λ o os v x y z. ended t.operations s o os v x y z) t.operations
         (with_operations [] (losing.loss_noted t)) u p
-        (record { done = λ x i. absurd i; left = come_same t.operations })).done
+        (begins_with t.operations (with_operations [] (losing.loss_noted t)) refl))
 
 operated : (now : Stamp) (start all : List Operation) (o : Operation) (os : List Operation) (t u : Turn) → Operated now all o t u → Passing start (o ∷ os) t →
     Passing start os u
@@ -245,11 +379,37 @@ greeted now tick t _ asking.IsSilent = refl
 greeted now tick t _ (asking.SaysHello e m) = refl
 
 -- Requests: one operation may be sent.
-abbrev Waited : List Operation → Association → Operation → Type 0
-Waited os a p = (From os p ⊎ (cs.is_asked_at p.stage ≡ false)) ⊎ JustSent a p.ask
+pub record Origin (os : List Operation) (p : Operation) : Type 0 where
+  pub o : Operation
+  pub there : Has o os
+  pub op : o.op ≡ p.op
+  pub ask : o.ask ≡ p.ask
 
-abbrev AllWaited : List Operation → Association → List Operation → Type 0
-AllWaited os a ps = (p : Operation) → Has p ps → Waited os a p
+-- of an operation that is there, which was sent if the first was
+record Was (os : List Operation) (p : Operation) : Type 0 where
+  o : Operation
+  there : Has o os
+  op : o.op ≡ p.op
+  ask : o.ask ≡ p.ask
+  stays : cs.is_sent o ≡ true → cs.is_sent p ≡ true
+
+fine_on : (o j : Operation) (ask : Ask) → o.ask ≡ j.ask → (cs.is_sent o ≡ true → cs.is_sent j ≡ true) → Fine o ask → Fine j ask
+fine_on o j ask e k (inl q) = inl (ap (λ x. is_sooner x ask) (sym e) ∙ q)
+fine_on o j ask e k (inr (y, inl q)) = inr (y, inl (k q))
+fine_on o j ask e k (inr (y, inr q)) = inr (y, inr (ap (λ x. is_some (cs.file_of x)) (sym e) ∙ q))
+
+pub record SentNow (G : Type 0) (os ps : List Operation) (a : Association) (p : Operation) : Type 0 where
+  pub origin : Origin os p
+  pub sent : cs.is_sent p ≡ true
+  pub just : JustSent a p.ask
+  pub kind : G → cs.is_cut_or_name p.ask ≡ true
+  pub order : G → Ordered p ps
+
+abbrev Waited : Type 0 → List Operation → List Operation → Association → Operation → Type 0
+Waited G os ps a p = From os p ⊎ SentNow G os ps a p
+
+abbrev AllWaited : Type 0 → List Operation → List Operation → Association → Type 0
+AllWaited G os ps a = (p : Operation) → Has p ps → Waited G os ps a p
 
 no_file : (n : NameAsk) → cs.file_of_name n ≡ None → (dir : ℕ) (name : List ℕ) (ino : ℕ) → n ≡ names.Remove dir name ino → ino ≡ 0
 unfolding cs.meant
@@ -316,15 +476,27 @@ wants_under t s x now ask _ same (asking.ToRemove server n ino l e f q c d) o =
 wants_under t s x now ask _ same (asking.ToName server n e f) o =
     under_names x ask n server Words.ClientLocks.no_grant e (λ dir name i is z. absurd (z (no_file n f dir name i is)))
 
-asked_all : (now : Stamp) (tick : Bool) (t u : Turn) → Requests now tick t u → AllWaited t.operations u.here u.operations
+same_kind : (a : Ask) → is_cut_or_name a ≡ true → cs.is_cut_or_name a ≡ true
+same_kind (asks.Cut f p) e = refl
+same_kind (asks.Name s ask) e = refl
+same_kind (asks.Write f p bytes) e = cc e
+same_kind (asks.Patch f p at bytes) e = cc e
+same_kind (asks.Read f p) e = cc e
+same_kind (asks.Sync f) e = cc e
+
+asked_all : (G : Type 0) (now : Stamp) (tick : Bool) (t u : Turn) → (G → NoneWaits now t) → (G → Sorted t.operations) → Requests now tick t u →
+    AllWaited G t.operations u.operations u.here × (G → Sorted u.operations)
 unfolding cs.send cs.asking
-asked_all now tick t _ asking.AsksNothing = λ p i. inl (come_same t.operations p i)
-asked_all now tick t _ (asking.AsksAgain s q e c n o) = λ p i. inl (come_same t.operations p i)
-asked_all now tick t _ (asking.Reasserts s m d) = λ p i. inl (come_same t.operations p i)
-asked_all now tick t _ (asking.Releases s r rs m d e) = λ p i. inl (come_same t.operations p i)
-asked_all now tick t _ (asking.KeepsAlive s f e) = λ p i. inl (come_same t.operations p i)
-asked_all now tick t _ (asking.AsksFor s xs o ys w f e first) = λ p i. go p (has_append xs (cp.sent_if w.own o ∷ ys) p i)
+asked_all G now tick t _ stays sorted asking.AsksNothing = (λ p i. inl (same_one t.operations p i), sorted)
+asked_all G now tick t _ stays sorted (asking.AsksAgain s q e c n o) = (λ p i. inl (same_one t.operations p i), sorted)
+asked_all G now tick t _ stays sorted (asking.Reasserts s m d) = (λ p i. inl (same_one t.operations p i), sorted)
+asked_all G now tick t _ stays sorted (asking.Releases s r rs m d e) = (λ p i. inl (same_one t.operations p i), sorted)
+asked_all G now tick t _ stays sorted (asking.KeepsAlive s f e) = (λ p i. inl (same_one t.operations p i), sorted)
+asked_all G now tick t _ stays sorted (asking.AsksFor s xs o ys w f e first) = by w.own refl
   where
+    its : G → Sorted (xs ++ o ∷ ys)
+    its y = subst Sorted first.there (sorted y)
+
     old : (p : Operation) → Has p (xs ++ o ∷ ys) → From t.operations p
     old p i = same_one t.operations p (subst (Has p) (sym first.there) i)
 
@@ -334,122 +506,403 @@ asked_all now tick t _ (asking.AsksFor s xs o ys w f e first) = λ p i. go p (ha
     mine : cs.is_of t.here.server o ≡ true
     mine = (and_true (cs.is_of t.here.server o) _ first.may).0
 
-    sent : (b : Bool) → w.own ≡ b → (p : Operation) → p ≡ cp.sent_if b o →
-        Waited t.operations
-        (asking.asked (cs.with_store (cp.cut_store w.cut t.here.store) (with_operations (xs ++ cp.sent_if b o ∷ ys) t)) s now w.body (cp.file_cut w.cut)).here p
-    sent false q p is = inl (inl (old p (has_right xs (o ∷ ys) p (inl is))))
-    sent true q p is =
-        inr
-        (record {
-          server = ap (λ (y : Operation). (server_of y.ask).0) is ∙ eqb-true (server_of o.ask).0 t.here.server.0 mine;
-          under = subst (λ (a : Ask). IsUnder x a w.body) (sym (ap (λ (y : Operation). y.ask) is)) (wants_under t s x now o.ask w refl first.wants q);
-        })
+    here : Bool → Association
+    here b = (asking.asked (cs.with_store (cp.cut_store w.cut t.here.store) (with_operations (xs ++ cp.sent_if b o ∷ ys) t)) s now w.body (cp.file_cut w.cut)).here
 
-    go : (p : Operation) → Has p xs ⊎ Has p (cp.sent_if w.own o ∷ ys) →
-        Waited t.operations
-        (asking.asked (cs.with_store (cp.cut_store w.cut t.here.store) (with_operations (xs ++ cp.sent_if w.own o ∷ ys) t)) s now w.body (cp.file_cut w.cut)).here p
-    go p (inl i) = inl (inl (old p (has_left xs (o ∷ ys) p i)))
-    go p (inr (inl e)) = sent w.own refl p e
-    go p (inr (inr i)) = inl (inl (old p (has_right xs (o ∷ ys) p (inr i))))
+    q : Operation
+    q = cs.at_stage stages.Sent o
+
+    now_sent : w.own ≡ true → SentNow G t.operations (xs ++ q ∷ ys) (here true) q
+    now_sent own =
+        record {
+          origin = record { o = o; there = subst (Has o) (sym first.there) (has_right xs (o ∷ ys) o (inl refl)); op = refl; ask = refl };
+          sent = refl;
+          kind = λ y. same_kind o.ask (kind_of now t (stays y) s f.may.session f.released e xs o ys w first own o.ask w own first.wants);
+          just =
+              record {
+                server = eqb-true (server_of o.ask).0 t.here.server.0 mine;
+                under = wants_under t s x now o.ask w refl first.wants own;
+              };
+          order = λ y j i l. order y j l (has_append xs (q ∷ ys) j i);
+        }
+      where
+        order : G → (j : Operation) → j.op < o.op → Has j xs ⊎ Has j (q ∷ ys) → Fine j o.ask
+        order y j l (inl i) = fine now t (stays y) s f.may.session f.released e xs o ys w first own j i
+        order y j l (inr (inl k)) = let z = ap (λ (x : Operation). x.op) k in absurd (omega (arith, l, z))
+        order y j l (inr (inr i)) = let z = sorted_after xs o ys (its y) j i in absurd (omega (arith, l, z))
+
+    sends : w.own ≡ true → (p : Operation) → Has p xs ⊎ Has p (q ∷ ys) → Waited G t.operations (xs ++ q ∷ ys) (here true) p
+    sends own p (inl i) = inl (old p (has_left xs (o ∷ ys) p i))
+    sends own p (inr (inl k)) = inr (subst (SentNow G t.operations (xs ++ q ∷ ys) (here true)) (sym k) (now_sent own))
+    sends own p (inr (inr i)) = inl (old p (has_right xs (o ∷ ys) p (inr i)))
+
+    by : (b : Bool) → w.own ≡ b → AllWaited G t.operations (xs ++ cp.sent_if b o ∷ ys) (here b) × (G → Sorted (xs ++ cp.sent_if b o ∷ ys))
+    by true own = (λ p i. sends own p (has_append xs (q ∷ ys) p i), λ y. sorted_put xs o q ys refl (its y))
+    by false own = (λ p i. inl (old p i), its)
 
 -- All passes.
-passed : (now : Stamp) (tick : Bool) (t : Turn) → AllWaited t.operations (cp.passes now tick t).here (cp.passes now tick t).operations
-passed now tick t p i = go (asked_all now tick r.greeted u r.requests p i)
-  where
-    r : Passed now tick t (cp.passes now tick t)
-    r = passes now tick t
+not_empty : {A : Type 0} (xs : List A) (x : A) → xs ++ x ∷ [] ≡ [] → ⊥
+not_empty [] x e = cc e
+not_empty (y ∷ xs) x e = cc e
 
-    u : Turn
-    u = cp.passes now tick t
+module _ (G : Type 0) (now : Stamp) (tick : Bool) (t : Turn) (sorted : G → Sorted t.operations)
+    (kinds : G → (o : Operation) → Has o t.operations → cs.is_sent o ≡ true → cs.is_cut_or_name o.ask ≡ true) where
+  abbrev pub u : Turn
+  u = cp.passes now tick t
 
-    before : Come t.operations r.operated.operations
-    before =
-        (each_lasts (Operated now t.operations) (λ os v. Passing t.operations os v) (λ o os v x y z. operated now t.operations t.operations o os v x y z)
-        t.operations (with_operations [] t) r.operated r.operations (record { done = λ x i. absurd i; left = come_same t.operations })).done
+  -- the passes, and what the operations leave
+  whole : (p : Passed now tick t u) × (p.operated ≡ cp.operations now t)
+  unfolding cp.passes
+  whole =
+      let a = cp.operations now t in
+      let b = cp.reductions a in
+      let c = cp.writes now tick b in
+      let d = cp.greeting now tick c in (
+        record {
+          operated = a;
+          reduced = b;
+          written = c;
+          greeted = d;
+          operations = operations now t;
+          reductions = reductions a;
+          writes = writes now tick b;
+          greeting = greets now tick c;
+          requests = requests now tick d;
+        },
+        refl,
+      )
 
-    same : r.greeted.operations ≡ r.operated.operations
-    same =
-        greeted now tick r.written r.greeted r.greeting
-        ∙ each_lasts (WritesOut now tick) (λ xs v. v.operations ≡ r.operated.operations) (λ x xs v y o p. wrote now tick x v y o ∙ p)
-        (places_of r.reduced.here.session r.reduced.here.store.pages) r.reduced r.written r.writes
-        (each_lasts Reduced (λ xs v. v.operations ≡ r.operated.operations) (λ x xs v y o p. reduced x v y o ∙ p)
-        (cp.files_demanded r.operated.here.session) r.operated r.reduced r.reductions refl)
+  abbrev r : Passed now tick t u
+  r = whole.0
 
-    go : Waited r.greeted.operations u.here p → Waited t.operations u.here p
-    go (inl (inl f)) = inl (from_then t.operations r.greeted.operations (subst (Come t.operations) (sym same) before) p f)
-    go (inl (inr n)) = inl (inr n)
-    go (inr j) = inr j
+  rest : G → Rest now t [] r.operated
+  rest y = subst (Rest now t []) (sym whole.1) (after_operations now t (kinds y))
+
+  before : KeptIn t.operations r.operated.operations
+  before =
+      passed_over t.operations r.operated
+      (each_lasts (Operated now t.operations) (λ os v. Passing t.operations os v) (λ o os v x y z. operated now t.operations t.operations o os v x y z)
+      t.operations (with_operations [] t) r.operated r.operations (begins_with t.operations (with_operations [] t) refl))
+
+  -- nothing is reduced, if nothing must be released
+  abbrev Unreduced : Turn → Type 0
+  Unreduced v = (v ≡ r.operated) ⊎ ((s : ClientSession) → v.here.session ≡ Some s → s.releases ≡ [] → ⊥)
+
+  unreduced : Unreduced r.reduced
+  unreduced =
+      each_lasts Reduced (λ xs v. Unreduced v) (λ ino xs v y o h. one ino v y o h) (cp.files_demanded r.operated.here.session) r.operated r.reduced r.reductions
+      (inl refl)
+    where
+      one : (ino : ℕ) (v y : Turn) → Reduced ino v y → Unreduced v → Unreduced y
+      one ino v _ StaysHeld h = h
+      one ino v _ (IsReduced s g to e m q) h =
+          inr (λ z f k. not_empty _ _ (ap (λ (c : ClientSession). c.releases) (some_is f) ∙ k))
+
+  -- what the writes and the greeting leave
+  record Left (v w : Turn) : Type 0 where
+    operations : w.operations ≡ v.operations
+    session : w.here.session ≡ v.here.session
+    server : w.here.server ≡ v.here.server
+    config : w.config ≡ v.config
+    extents : w.here.store.extents ≡ v.here.store.extents
+    busy : (ino : ℕ) → Busy v.here.store ino → Busy w.here.store ino
+
+  left_same : (v : Turn) → Left v v
+  left_same v = record { operations = refl; session = refl; server = refl; config = refl; extents = refl; busy = λ ino b. b }
+
+  left_then : (v w x : Turn) → Left v w → Left w x → Left v x
+  left_then v w x a b =
+      record {
+        operations = b.operations ∙ a.operations;
+        session = b.session ∙ a.session;
+        server = b.server ∙ a.server;
+        config = b.config ∙ a.config;
+        extents = b.extents ∙ a.extents;
+        busy = λ ino k. b.busy ino (a.busy ino k);
+      }
+
+  written : Left r.reduced r.written
+  written =
+      each_lasts (WritesOut now tick) (λ xs v. Left r.reduced v) (λ x xs v y o h. left_then r.reduced v y h (one x v y o))
+      (places_of r.reduced.here.session r.reduced.here.store.pages) r.reduced r.written r.writes (left_same r.reduced)
+    where
+      one : (x : ℕ × PageNo) (v y : Turn) → WritesOut now tick x v y → Left v y
+      one x v _ StaysDirty = left_same v
+      one x v _ (IsWritten s d m e q i j) =
+          record { operations = refl; session = refl; server = refl; config = refl; extents = refl; busy = busy }
+        where
+          busy : (ino : ℕ) → Busy v.here.store ino → Busy (Rattle.st_trace.specs.Client.Passes.submits_write v d m).here.store ino
+          busy ino (inl b) = inl b
+          busy ino (inr b) = inr (begun_busy v.here.store.commands v.next_command d.ino d.page (io.Write d.version) ino b)
+
+  greets_left : (v w : Turn) → Greets now tick v w → Left v w
+  unfolding cs.send
+  greets_left v _ asking.IsSilent = left_same v
+  greets_left v _ (asking.SaysHello e m) = record { operations = refl; session = refl; server = refl; config = refl; extents = refl; busy = λ ino b. b }
+
+  after_reductions : Left r.reduced r.greeted
+  after_reductions = left_then r.reduced r.written r.greeted written (greets_left r.written r.greeted r.greeting)
+
+  -- so changes that could be served don't wait
+  none_waits : G → NoneWaits now r.greeted
+  none_waits y s at none j i f p c own serving free may idle = go unreduced
+    where
+      go : Unreduced r.reduced → ⊥
+      go (inr h) = h s (sym after_reductions.session ∙ at) none
+      go (inl e) = not_idle r.greeted.here.store f.ino (all.busy f.ino ((rest y).waits j listed s f p c owns there lasts open_ mapped)) idle
+        where
+          all : Left r.operated r.greeted
+          all = subst (λ (v : Turn). Left v r.greeted) e after_reductions
+
+          listed : Has j r.operated.operations
+          listed = subst (Has j) all.operations i
+
+          owns : cs.is_of t.here.server j ≡ true
+          owns = ap (λ h. cs.is_of h j) (sym (all.server ∙ (rest y).server)) ∙ own
+
+          there : t.here.session ≡ Some s
+          there = sym (all.session ∙ (rest y).session) ∙ at
+
+          lasts : cs.is_serving t.config s now ≡ true
+          lasts = ap (λ c. cs.is_serving c s now) (sym (all.config ∙ (rest y).config)) ∙ serving
+
+          mapped : cp.may_write t s f p ≡ true
+          mapped = ap (λ xs. cp.holds s modes.X f && pages.is_mapped xs f.ino p) (sym (all.extents ∙ (rest y).extents)) ∙ may
+
+          sv : ServerId
+          sv = t.here.server
+
+          same_server : r.greeted.here.server ≡ sv
+          same_server = all.server ∙ (rest y).server
+
+          parts : (not (locks.is_demanded s.locks f.ino) ≡ true) × (not (cs.is_busy r.greeted.operations r.greeted.here.server s f.ino) ≡ true)
+          parts = and_true (not (locks.is_demanded s.locks f.ino)) (not (cs.is_busy r.greeted.operations r.greeted.here.server s f.ino)) free
+
+          stays : list_any (cs.is_sent_on sv f.ino) t.operations ≡ true → list_any (cs.is_sent_on sv f.ino) r.greeted.operations ≡ true
+          stays k =
+              let z = some_member_passes (cs.is_sent_on sv f.ino) t.operations k in
+              some_passes (cs.is_sent_on sv f.ino) r.greeted.operations z.0
+              (subst (Has z.0) (sym all.operations) (by z.0 ((rest y).sent z.0 z.1 (and_true (cs.is_sent z.0) (cs.is_on sv f.ino z.0) z.2).0))) z.2
+            where
+              by : (x : Operation) → Has x r.operated.operations ⊎ Has x [] → Has x r.operated.operations
+              by x (inl h) = h
+              by x (inr h) = absurd h
+
+          open_ : cs.is_open_file t.operations sv s (Some f.ino) ≡ true
+          open_ =
+              and_both (not (locks.is_demanded s.locks f.ino)) (not (cs.is_busy t.operations sv s f.ino)) parts.0
+              (busy (cs.is_file f.ino s.cutting) (list_any (cs.is_sent_on sv f.ino) t.operations) refl
+              (ap (λ h. not (cs.is_busy r.greeted.operations h s f.ino)) (sym same_server) ∙ parts.1))
+            where
+              busy : (a b : Bool) → list_any (cs.is_sent_on sv f.ino) t.operations ≡ b →
+                  not (a || list_any (cs.is_sent_on sv f.ino) r.greeted.operations) ≡ true → not (a || b) ≡ true
+              busy true b k q = cc q
+              busy false false k q = refl
+              busy false true k q = clash (ap not (sym (stays k)) ∙ q) refl
+
+  pub passed : AllWaited G t.operations u.operations u.here × (G → Sorted u.operations)
+  passed = (λ p i. go p (z.0 p i), z.1)
+    where
+      same : r.greeted.operations ≡ r.operated.operations
+      same =
+          greeted now tick r.written r.greeted r.greeting
+          ∙ each_lasts (WritesOut now tick) (λ xs v. v.operations ≡ r.operated.operations) (λ x xs v y o p. wrote now tick x v y o ∙ p)
+          (places_of r.reduced.here.session r.reduced.here.store.pages) r.reduced r.written r.writes
+          (each_lasts Reduced (λ xs v. v.operations ≡ r.operated.operations) (λ x xs v y o p. reduced x v y o ∙ p)
+          (cp.files_demanded r.operated.here.session) r.operated r.reduced r.reductions refl)
+
+      kept : KeptIn t.operations r.greeted.operations
+      kept = subst (KeptIn t.operations) (sym same) before
+
+      z : AllWaited G r.greeted.operations u.operations u.here × (G → Sorted u.operations)
+      z = asked_all G now tick r.greeted u none_waits (λ y. kept.sorted (sorted y)) r.requests
+
+      go : (p : Operation) → Waited G r.greeted.operations u.operations u.here p → Waited G t.operations u.operations u.here p
+      go p (inl f) = inl (from_then t.operations r.greeted.operations kept.from p f)
+      go p (inr n) =
+          let f = kept.from n.origin.o n.origin.there in
+          inr (record {
+            origin = record { o = f.o; there = f.there; op = f.op ∙ n.origin.op; ask = f.ask ∙ n.origin.ask };
+            sent = n.sent;
+            kind = n.kind;
+            just = n.just;
+            order = n.order;
+          })
 
 -- The whole step: a rule at each server in turn.
-everywhere : (start : List Operation) (rule : Turn → Turn) → ((t : Turn) → Kept t (rule t)) → (al : List Association) (t : ClientTurn) →
-    Come start t.state.operations → Come start (at_these rule al t).state.operations
+everywhere : (G : Type 0) (n : ℕ) (start : List Operation) (rule : Turn → Turn) → ((t : Turn) → Ok G n start t.operations → Ok G n start (rule t).operations) →
+    (al : List Association) (t : ClientTurn) → Ok G n start t.state.operations → Ok G n start (at_these rule al t).state.operations
 unfolding at_these
-everywhere start rule one [] t h = h
-everywhere start rule one (a ∷ al) t h =
-    everywhere start rule one al (leave t (rule (enter t a))) (come_then start t.state.operations (rule (enter t a)).operations h (one (enter t a)))
+everywhere G n start rule one [] t h = h
+everywhere G n start rule one (a ∷ al) t h = everywhere G n start rule one al (leave t (rule (enter t a))) (one (enter t a) h)
 
-at_all : (start : List Operation) (rule : Turn → Turn) → ((t : Turn) → Kept t (rule t)) → (t : ClientTurn) → Come start t.state.operations →
-    Come start (at_each rule t).state.operations
+at_all : (G : Type 0) (n : ℕ) (start : List Operation) (rule : Turn → Turn) → ((t : Turn) → Ok G n start t.operations → Ok G n start (rule t).operations) → (t : ClientTurn) →
+    Ok G n start t.state.operations → Ok G n start (at_each rule t).state.operations
 unfolding at_each
-at_all start rule one t h = everywhere start rule one t.state.associations (with_associations [] t) h
+at_all G n start rule one t h = everywhere G n start rule one t.state.associations (with_associations [] t) h
 
--- an operation waited before, or has just been sent at one of these
-abbrev pub WaitedAt : List Operation → List Association → Operation → Type 0
-WaitedAt os al p = (From os p ⊎ (cs.is_asked_at p.stage ≡ false)) ⊎ ((a : Association) × Has a al × JustSent a p.ask)
+-- an operation waited before, or was not sent, or has just been sent at one of these
+pub record SentAt (G : Type 0) (n : ℕ) (start : List Operation) (al : List Association) (ps : List Operation) (p : Operation) : Type 0 where
+  pub a : Association
+  pub among : Has a al
+  pub origin : Origin start p ⊎ (G → p.op ≡ n)
+  pub just : JustSent a p.ask
+  pub sent : cs.is_sent p ≡ true
+  pub kind : G → cs.is_cut_or_name p.ask ≡ true
+  pub order : G → Ordered p ps
 
-pub record AllAt (start : List Operation) (t : ClientTurn) : Type 0 where
-  pub each : (p : Operation) → Has p t.state.operations → WaitedAt start t.state.associations p
+abbrev pub WaitedAt : Type 0 → ℕ → List Operation → List Association → List Operation → Operation → Type 0
+WaitedAt G n os al ps p = (From os p ⊎ IsNew G n p) ⊎ SentAt G n os al ps p
 
-passed_all : (start : List Operation) (now : Stamp) (tick : Bool) (al : List Association) (t : ClientTurn) → AllAt start t →
-    AllAt start (at_these (cp.passes now tick) al t)
-unfolding at_these
-passed_all start now tick [] t h = h
-passed_all start now tick (a ∷ al) t h = passed_all start now tick al (leave t u) (record { each = each })
-  where
-    u : Turn
-    u = cp.passes now tick (enter t a)
+pub record AllAt (G : Type 0) (n : ℕ) (start : List Operation) (t : ClientTurn) : Type 0 where
+  pub each : (p : Operation) → Has p t.state.operations → WaitedAt G n start t.state.associations t.state.operations p
+  pub sorted : G → Sorted t.state.operations
 
-    more : (b : Association) → Has b t.state.associations → Has b (t.state.associations ++ u.here ∷ [])
-    more b i = has_left t.state.associations (u.here ∷ []) b i
+module _ (G : Type 0) (n : ℕ) (start : List Operation)
+    (kinds : G → (o : Operation) → Has o start → cs.is_sent o ≡ true → cs.is_cut_or_name o.ask ≡ true) where
+  kinds_at : (t : ClientTurn) → AllAt G n start t → G → (p : Operation) → Has p t.state.operations → cs.is_sent p ≡ true → cs.is_cut_or_name p.ask ≡ true
+  kinds_at t h y p i q = go (h.each p i)
+    where
+      go : WaitedAt G n start t.state.associations t.state.operations p → cs.is_cut_or_name p.ask ≡ true
+      go (inl (inl f)) = ap cs.is_cut_or_name (sym f.ask) ∙ kinds y f.o f.there (sym f.sent ∙ q)
+      go (inl (inr n)) = clash q n.unsent
+      go (inr s) = s.kind y
 
-    old : (q : Operation) → From t.state.operations q → WaitedAt start (t.state.associations ++ u.here ∷ []) q
-    old q f = go (h.each f.o f.there)
-      where
-        off : cs.is_asked_at f.o.stage ≡ false → (b : Bool) → cs.is_asked_at q.stage ≡ b → cs.is_asked_at q.stage ≡ false
-        off n true e = clash (f.asked e) n
-        off n false e = e
+  passed_all : (now : Stamp) (tick : Bool) (al : List Association) (t : ClientTurn) → AllAt G n start t → AllAt G n start (at_these (cp.passes now tick) al t)
+  unfolding at_these
+  passed_all now tick [] t h = h
+  passed_all now tick (a ∷ al) t h = passed_all now tick al (leave t v) (record { each = λ p i. by p (z.0 p i); sorted = z.1 })
+    where
+      v : Turn
+      v = cp.passes now tick (enter t a)
 
-        go : WaitedAt start t.state.associations f.o → WaitedAt start (t.state.associations ++ u.here ∷ []) q
-        go (inl (inl z)) = inl (inl (record { o = z.o; there = z.there; op = z.op ∙ f.op; ask = z.ask ∙ f.ask; asked = λ e. z.asked (f.asked e) }))
-        go (inl (inr n)) = inl (inr (off n (cs.is_asked_at q.stage) refl))
-        go (inr (b, i, j)) = inr (b, more b i, subst (JustSent b) f.ask j)
+      z : AllWaited G t.state.operations v.operations v.here × (G → Sorted v.operations)
+      z = passed G now tick (enter t a) h.sorted (kinds_at t h)
 
-    by : (p : Operation) → Waited t.state.operations u.here p → WaitedAt start (t.state.associations ++ u.here ∷ []) p
-    by p (inl (inl f)) = old p f
-    by p (inl (inr n)) = inl (inr n)
-    by p (inr j) = inr (u.here, has_right t.state.associations (u.here ∷ []) u.here (inl refl), j)
+      more : List Association
+      more = t.state.associations ++ v.here ∷ []
 
-    each : (p : Operation) → Has p u.operations → WaitedAt start (t.state.associations ++ u.here ∷ []) p
-    each p i = by p (passed now tick (enter t a) p i)
+      -- each one that is there was there
+      origin : (p : Operation) → Has p v.operations → Was t.state.operations p
+      origin p i = go (z.0 p i)
+        where
+          go : Waited G t.state.operations v.operations v.here p → Was t.state.operations p
+          go (inl f) = record { o = f.o; there = f.there; op = f.op; ask = f.ask; stays = λ q. f.sent ∙ q }
+          go (inr n) = record { o = n.origin.o; there = n.origin.there; op = n.origin.op; ask = n.origin.ask; stays = λ q. n.sent }
 
-input_taken : (start : List Operation) (t : ClientTurn) (now : Stamp) (i : ClientInput) → Come start t.state.operations → Come start (cl.take_input t now i).state.operations
+      -- whence it came
+      started : (o : Operation) → WaitedAt G n start t.state.associations t.state.operations o → Origin start o ⊎ (G → o.op ≡ n)
+      started o (inl (inl y)) = inl (record { o = y.o; there = y.there; op = y.op; ask = y.ask })
+      started o (inl (inr k)) = inr k.number
+      started o (inr s) = s.origin
+
+      begun : (o p : Operation) → o.op ≡ p.op → o.ask ≡ p.ask → Origin start o ⊎ (G → o.op ≡ n) → Origin start p ⊎ (G → p.op ≡ n)
+      begun o p e f (inl y) = inl (record { o = y.o; there = y.there; op = y.op ∙ e; ask = y.ask ∙ f })
+      begun o p e f (inr k) = inr (λ y. sym e ∙ k y)
+
+      old : (p : Operation) → From t.state.operations p → WaitedAt G n start more v.operations p
+      old p f = go (h.each f.o f.there)
+        where
+          go : WaitedAt G n start t.state.associations t.state.operations f.o → WaitedAt G n start more v.operations p
+          go (inl (inl y)) =
+              inl (inl (record { o = y.o; there = y.there; op = y.op ∙ f.op; ask = y.ask ∙ f.ask; asked = λ e. y.asked (f.asked e); sent = f.sent ∙ y.sent }))
+          go (inl (inr k)) = inl (inr (record { unsent = f.sent ∙ k.unsent; number = λ y. sym f.op ∙ k.number y }))
+          go (inr s) =
+              inr (record {
+                a = s.a;
+                among = has_left t.state.associations (v.here ∷ []) s.a s.among;
+                origin = begun f.o p f.op f.ask s.origin;
+                just = subst (JustSent s.a) f.ask s.just;
+                sent = f.sent ∙ s.sent;
+                kind = λ y. ap cs.is_cut_or_name (sym f.ask) ∙ s.kind y;
+                order = λ y j i l. order y j l (origin j i);
+              })
+            where
+              order : G → (j : Operation) → j.op < p.op → Was t.state.operations j → Fine j p.ask
+              order y j l x =
+                  let e = x.op in
+                  let g = f.op in
+                  subst (Fine j) f.ask (fine_on x.o j f.o.ask x.ask x.stays (s.order y x.o x.there (omega (arith, l, e, g))))
+
+      by : (p : Operation) → Waited G t.state.operations v.operations v.here p → WaitedAt G n start more v.operations p
+      by p (inl f) = old p f
+      by p (inr k) =
+          inr (record {
+            a = v.here;
+            among = has_right t.state.associations (v.here ∷ []) v.here (inl refl);
+            origin = begun k.origin.o p k.origin.op k.origin.ask (started k.origin.o (h.each k.origin.o k.origin.there));
+            just = k.just;
+            sent = k.sent;
+            kind = k.kind;
+            order = k.order;
+          })
+
+input_taken : (G : Type 0) (n : ℕ) (start : List Operation) (t : ClientTurn) (now : Stamp) (i : ClientInput) →
+    (G → (op : ℕ) (ask : Ask) → i ≡ inputs.App op ask → op ≡ n) → Ok G n start t.state.operations → Ok G n start (cl.take_input t now i).state.operations
 unfolding cl.take_input cl.app cl.app_known cl.done cr.receive cr.receive_here
-input_taken start t now inputs.Tick h = h
-input_taken start t now (inputs.App op ask) h =
-    cond_either (λ (u : ClientTurn). Come start u.state.operations) (cl.is_full t.state) (cl.answered_at_once t op answers.OpsFull) (cl.app_known t op ask) (λ e. h)
-    (λ e. cond_either (λ (u : ClientTurn). Come start u.state.operations) (cl.is_configured t.state (server_of ask))
+input_taken G n start t now inputs.Tick is h = h
+input_taken G n start t now (inputs.App op ask) is h =
+    cond_either (λ (u : ClientTurn). Ok G n start u.state.operations) (cl.is_full t.state) (cl.answered_at_once t op answers.OpsFull) (cl.app_known t op ask) (λ e. h)
+    (λ e. cond_either (λ (u : ClientTurn). Ok G n start u.state.operations) (cl.is_configured t.state (server_of ask))
     (at_each (only_at (server_of ask) (cl.take_ask op ask)) t) (cl.answered_at_once t op answers.NoFile)
-    (λ c. at_all start (only_at (server_of ask) (cl.take_ask op ask)) (took op ask) t h) (λ c. h))
-input_taken start t now (inputs.Control m) h =
-    cond_either (λ (u : ClientTurn). Come start u.state.operations) (m.header.to == t.state.id.0) (at_each (cr.receive_at now m.header m.body) t) t
-    (λ e. at_all start (cr.receive_at now m.header m.body) (received now m.header m.body) t h) (λ e. h)
-input_taken start t now (inputs.Done number r) h = at_all start (cl.finish number r) (finished number r) t h
+    (λ c. at_all G n start (only_at (server_of ask) (cl.take_ask op ask)) (λ u k. took G n start op ask (λ y. is y op ask refl) u k) t h) (λ c. h))
+input_taken G n start t now (inputs.Control m) is h =
+    cond_either (λ (u : ClientTurn). Ok G n start u.state.operations) (m.header.to == t.state.id.0) (at_each (cr.receive_at now m.header m.body) t) t
+    (λ e. at_all G n start (cr.receive_at now m.header m.body)
+    (λ u k. ok_then G n start u.operations (cr.receive_at now m.header m.body u).operations k (received now m.header m.body u)) t h) (λ e. h)
+input_taken G n start t now (inputs.Done number r) is h =
+    at_all G n start (cl.finish number r) (λ u k. ok_then G n start u.operations (cl.finish number r u).operations k (finished number r u)) t h
 
-pub step_waits : (s : ClientState) (now : Stamp) (input : ClientInput) → AllAt s.operations (cl.client_step s now input)
+-- What must be known of the client, so that its requests are in order.
+pub record Known (n : ℕ) (s : ClientState) (input : ClientInput) : Type 0 where
+  pub number : (op : ℕ) (ask : Ask) → input ≡ inputs.App op ask → op ≡ n
+  pub sorted : Sorted s.operations
+  pub below : Below n s.operations
+  pub kinds : (o : Operation) → Has o s.operations → cs.is_sent o ≡ true → cs.is_cut_or_name o.ask ≡ true
+
+pub step_waits : (n : ℕ) (s : ClientState) (now : Stamp) (input : ClientInput) → AllAt (Known n s input) n s.operations (cl.client_step s now input)
 unfolding cl.client_step cl.work cl.losses at_each
-step_waits s now input =
+step_waits n s now input =
     let lost_ : ClientTurn = at_each (cl.lose now) (client_turn s []) in
     let u : ClientTurn = cl.take_input lost_ now input in
-    let h : Come s.operations u.state.operations =
-    input_taken s.operations lost_ now input (at_all s.operations (cl.lose now) (lost now) (client_turn s []) (come_same s.operations)) in
-    passed_all s.operations now (cl.is_tick input) u.state.associations (with_associations [] u) (record { each = λ p i. inl (h p i) })
+    let h : Ok (Known n s input) n s.operations u.state.operations =
+    input_taken (Known n s input) n s.operations lost_ now input (λ y. y.number)
+    (at_all (Known n s input) n s.operations (cl.lose now)
+    (λ v k. ok_then (Known n s input) n s.operations v.operations (cl.lose now v).operations k (lost now v)) (client_turn s [])
+    (record { come = λ p i. inl (same_one s.operations p i); sorted = λ y. y.sorted; below = λ y. y.below })) in
+    passed_all (Known n s input) n s.operations (λ y. y.kinds) now (cl.is_tick input) u.state.associations (with_associations [] u)
+    (record { each = λ p i. inl (h.come p i); sorted = h.sorted })
+
+-- So requests are in order after the step.
+pub step_ordered : (n : ℕ) (s : ClientState) (now : Stamp) (input : ClientInput) → Known n s input → AllOrdered s.operations →
+    AllOrdered (cl.client_step s now input).state.operations
+step_ordered n s now input k h p i q j y l = go (z.each p i)
+  where
+    u : ClientTurn
+    u = cl.client_step s now input
+
+    z : AllAt (Known n s input) n s.operations (cl.client_step s now input)
+    z = step_waits n s now input
+
+    -- what waited before
+    was : (f : From s.operations p) (o : Operation) → Has o s.operations → o.op ≡ j.op → o.ask ≡ j.ask → (cs.is_sent o ≡ true → cs.is_sent j ≡ true) → Fine j p.ask
+    was f o x e a stays =
+        let g = f.op in subst (Fine j) f.ask (fine_on o j f.o.ask a stays (h f.o f.there (sym f.sent ∙ q) o x (omega (arith, l, e, g))))
+
+    -- what has just come is last
+    new : (f : From s.operations p) → j.op ≡ n → Fine j p.ask
+    new f e = let g = f.op in let b = k.below f.o f.there in absurd (omega (arith, l, e, g, b))
+
+    by : (f : From s.operations p) → WaitedAt (Known n s input) n s.operations u.state.associations u.state.operations j → Fine j p.ask
+    by f (inl (inl g)) = was f g.o g.there g.op g.ask (λ e. g.sent ∙ e)
+    by f (inl (inr g)) = new f (g.number k)
+    by f (inr g) = sent g.origin
+      where
+        sent : Origin s.operations j ⊎ (Known n s input → j.op ≡ n) → Fine j p.ask
+        sent (inl o) = was f o.o o.there o.op o.ask (λ e. g.sent)
+        sent (inr e) = new f (e k)
+
+    go : WaitedAt (Known n s input) n s.operations u.state.associations u.state.operations p → Fine j p.ask
+    go (inl (inl f)) = by f (z.each j y)
+    go (inl (inr f)) = clash q f.unsent
+    go (inr f) = f.order k j y l

@@ -1,12 +1,13 @@
 -- In every run a request that a server serves is that of its ask: a remove that means a file names a grant, whose number is above 0.
 use Rattle.st_lemmas.proofs.Words
 use Words.{◌≡◌, ◌≢◌, ◌⊎◌, ℕ, ◌+◌, ◌≤◌, arith, Bool, true, false, not, ◌&&◌, ◌==◌, List, [], ◌∷◌, ◌++◌, Option, Some, None, Ok, refl, sym, ap, ◌∙◌, subst, inl, inr, if◌then◌else◌}
-use Words.{bytes_eq, eq-eqb, eqb-true, ne_eqb, Ask, Body, ClientId, ClientInput, Config, Event, GrantNo, Message, NameAsk, NodeId, Operation, PageNo, Request, SentMessage, ServerId}
+use Words.{bytes_eq, eq-eqb, eqb-true, ne_eqb, Ask, Body, ClientId, ClientInput, Config, Event, GrantNo, Message, NameAsk, NodeId, Operation, PageNo, Request, SentMessage, ServerId, Stage}
 use Words.asks
 use Words.bodies
 use Words.events
 use Words.nodes
 use Words.ops
+use Words.stages
 use Words.Client as cl
 use Words.ClientPasses.{name_op}
 use Words.ClientState as cs
@@ -59,6 +60,7 @@ use Rattle.st_laws_volume.specs.Witness.{Behind, Witness, begun, does_at, is_nam
 use Rattle.st_laws_volume.proofs.Carried.{IsGiven, given_in}
 use Rattle.st_laws_volume.proofs.ReadPages.{InRange, all_in_range, throughout_both}
 use Rattle.st_laws_volume.proofs.RemoveGrants.{From, IsUnder, IsUnderAt, IsUnderIn, JustSent, WaitedAt, step_waits}
+use Rattle.st_laws_volume.proofs.RemoveGrants as sending
 use Rattle.st_laws_volume.proofs.RequestAsks.{GhostHolds, Grants, HasKey, ghost_begins, ghost_kept, has_key, is_served}
 
 -- a remove that means a file names a number above 0
@@ -138,9 +140,16 @@ module _ (t : World) where
 
   took : (v : World) (c : ClientId) (i : ClientInput) (site old : WorldClient) → site.node ≡ old.node → site.node.running ≡ true → site_of t c ≡ Some old →
       (last : World) → last.servers ≡ t.servers → (p : Operation) → Has p (SiteAfter v c i site).node.state.operations → WaitsSo last c (SiteAfter v c i site) p
-  took v c i site old is run at last ss p j = go ((step_waits site.node.state (world.clock_of v (nodes.Client c)) i).each p j)
+  took v c i site old is run at last ss p j = go ((step_waits 0 site.node.state (world.clock_of v (nodes.Client c)) i).each p j)
     where
-      go : WaitedAt site.node.state.operations (ClientTook v c i site).state.associations p → WaitsSo last c (SiteAfter v c i site) p
+      unasked : (g : Stage) → cs.is_sent_at g ≡ false → cs.is_asked_at g ≡ false
+      unasked stages.Sent e = cc e
+      unasked stages.Unsent e = refl
+      unasked stages.Stuck e = refl
+
+      go : WaitedAt (sending.Known 0 site.node.state i) 0 site.node.state.operations (ClientTook v c i site).state.associations
+          (ClientTook v c i site).state.operations p →
+          WaitsSo last c (SiteAfter v c i site) p
       go (inl (inl f)) =
           inr (inl (inl (record {
             site = old;
@@ -149,8 +158,8 @@ module _ (t : World) where
             from = subst (λ (n : cl.ClientNode). From n.state.operations p) is f;
             servers = ss;
           })))
-      go (inl (inr n)) = inr (inl (inr n))
-      go (inr (a, k, s)) = inr (inr (record { a = a; among = k; sent = s; runs = run }))
+      go (inl (inr n)) = inr (inl (inr (unasked p.stage n.unsent)))
+      go (inr s) = inr (inr (record { a = s.a; among = s.among; sent = s.just; runs = run }))
 
 module _ (past : List Step) (t : Traced) (e : Event) (sc : WorldTurn) (owed : ReassertionsNew past (step t e sc)) (happens : world_step t.world e ≡ Ok sc) where
   event_waits : AllWait t.world sc.world

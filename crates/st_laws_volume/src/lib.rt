@@ -20,6 +20,7 @@ ghost use Rattle.st_laws_volume.specs.Reads.{PagesAgree, ReadsGiveThePages};
 ghost use Rattle.st_laws_volume.specs.Requests.{RequestsAreForTheirAsks, RequestsFindNone, RequestsHaveAsks, RequestsHaveEffects, RequestsTakeEffectInOrder};
 ghost use Rattle.st_laws_volume.specs.ResultAnswers.{gives_result};
 ghost use Rattle.st_laws_volume.specs.Results.{OrphansHaveNoResult, ResultsAreOfCutsAndNames};
+ghost use Rattle.st_laws_volume.specs.SentOrder.{RequestsAreInOrder};
 ghost use Rattle.st_laws_volume.specs.TreeNames.{NamesStaySound, SoundNamesDoTheSame};
 ghost use Rattle.st_laws_volume.specs.Trees.{TreesAgree};
 
@@ -311,6 +312,13 @@ pub fn requests_have_effects()
 /// must take effect before it.
 pub fn requests_take_effect_in_order()
     ensures { InEveryRun RequestsTakeEffectInOrder }
+{}
+
+/// In every run, after every event, of each client: no pending operation must take effect before a
+/// later one whose request the client has sent. One case is left open: both mean no file, and the
+/// earlier one was sent too, or needs a file.
+pub fn requests_are_in_order()
+    ensures { InEveryRun RequestsAreInOrder }
 {}
 
 /// In every run such a request finds that the open ask to which it belongs has no result yet: an
