@@ -73,6 +73,7 @@ pub mod ReadContents
 pub mod ReadPages
 pub mod ReadPatches
 pub mod ReadRanges
+pub mod RefusalNotices
 pub mod RemoveGrants
 pub mod RequestAsks
 pub mod RequestEffects

@@ -30,14 +30,14 @@ use Rattle.st_volume.specs.Volume as volume
 use Rattle.st_volume.specs.Volume.{Pending, Volume, acts, after_answer, answered, answers_so, arrived, closed, ends, failed, fails, is_ask, is_of_client, is_read_of, is_sync_of, notice, noticing, numbered, open_of, run, step, takes, with_changed, with_fate}
 
 -- Lists that a function leaves.
-abbrev Fixed : {A : Type 0} → (A → A) → List A → Type 0
+abbrev pub Fixed : {A : Type 0} → (A → A) → List A → Type 0
 Fixed {A} f xs = (x : A) → Has x xs → f x ≡ x
 
 map_fixed : {A : Type 0} (f : A → A) (xs : List A) → Fixed f xs → map f xs ≡ xs
 map_fixed f [] h = refl
 map_fixed f (x ∷ xs) h = ap (λ y. y ∷ map f xs) (h x (inl refl)) ∙ ap (λ ys. x ∷ ys) (map_fixed f xs (λ y i. h y (inr i)))
 
-each_fixed : {A : Type 0} (f : A → A) (xs : List A) → map f xs ≡ xs → Fixed f xs
+pub each_fixed : {A : Type 0} (f : A → A) (xs : List A) → map f xs ≡ xs → Fixed f xs
 each_fixed f [] e y i = absurd i
 each_fixed {A} f (x ∷ xs) e y i = go i (each_fixed f xs (rest e))
   where
@@ -66,7 +66,7 @@ same_marks a m n f g o p q r s = ap (λ x. marked a x f o) q ∙ (ap (λ x. mark
 noticed_twice : (v : Volume) (a : Pending) → noticing v (noticing v a) ≡ noticing v a
 noticed_twice v a = same_marks a _ _ _ _ _ _ (twice a.missed _) (twice a.full _) (twice a.other _)
 
-abbrev Noticed : Volume → Type 0
+abbrev pub Noticed : Volume → Type 0
 Noticed v = map (noticing v) v.pending ≡ v.pending
 
 after_notice : (v : Volume) → Noticed (notice v)
@@ -168,7 +168,7 @@ run_noticed (it ∷ its) v h =
     on_then Noticed (run its) (step v it) (on_more Noticed (λ u. OnSome Noticed (run its u)) (λ u k. run_noticed its u k) (step v it) (step_noticed v it h))
 
 -- In every run.
-abbrev NoticesHold : List Step → Traced → Witness → Type 0
+abbrev pub NoticesHold : List Step → Traced → Witness → Type 0
 NoticesHold past t it = OnSome Noticed it.volume
 
 after_noticed : (it : Witness) (x : Step) (o : Option Volume) → OnSome Noticed o → OnSome Noticed (volume_after it x o)
@@ -178,11 +178,11 @@ after_noticed it x (Some v) h =
     (on_more Noticed (λ u. OnSome Noticed (if_told u)) (λ u k. on_if Noticed (u.lines == length u.log) (Some u) k) (run (steps_of it v x) v)
     (run_noticed (steps_of it v x) v h))
 
-notices_kept : IsKept Nothing NoticesHold
+pub notices_kept : IsKept Nothing NoticesHold
 unfolding led_by
 notices_kept past t e sc it f g h = after_noticed it (safety.step t e sc) it.volume h
 
-notices_begin : (k : Config) (clients servers disks blocks form : ℕ) →
+pub notices_begin : (k : Config) (clients servers disks blocks form : ℕ) →
     NoticesHold [] (traced (fresh_world k clients servers disks blocks form))
     (begun (fresh_world k clients servers disks blocks form) (fresh_world k clients servers disks blocks form))
 unfolding begun

@@ -223,14 +223,14 @@ list_same n s dir after =
         ∙ ap (λ rows. makes (tree_of n) (answers.Listed (take 256 rows)) None) (order_same (map names.name_row (filter (names.is_listed dir after) n.entries))))
 
 -- Removals: what a look-up says of a place.
-record IsThere (n : Names) (dir : ℕ) (name : List ℕ) (ino : ℕ) : Type 0 where
-  entry : NameEntry
-  free : names.place_refusal n dir name ≡ None
-  found : names.entry_at n dir name ≡ Some entry
-  its : entry.ino ≡ ino
-  has : Has entry n.entries
+pub record IsThere (n : Names) (dir : ℕ) (name : List ℕ) (ino : ℕ) : Type 0 where
+  pub entry : NameEntry
+  pub free : names.place_refusal n dir name ≡ None
+  pub found : names.entry_at n dir name ≡ Some entry
+  pub its : entry.ino ≡ ino
+  pub has : Has entry n.entries
 
-there : (n : Names) (dir : ℕ) (name : List ℕ) (ino : ℕ) → names.lookup n dir name ≡ Ok ino → IsThere n dir name ino
+pub there : (n : Names) (dir : ℕ) (name : List ℕ) (ino : ℕ) → names.lookup n dir name ≡ Ok ino → IsThere n dir name ino
 unfolding names.lookup names.lookup_at
 there n dir name ino q = go (names.place_refusal n dir name) refl q
   where
@@ -281,7 +281,7 @@ unfolding names.remove names.remove_at names.remove_found
 names_remove n dir name ino i = ap (names.remove_at n dir name) i.free ∙ ap (names.remove_found n dir name) i.found
 
 -- the kind of the entry
-kind_there : (n : Names) → IsSound n → (dir : ℕ) (name : List ℕ) (ino : ℕ) (i : IsThere n dir name ino) (b : Bool) → names.is_file n ino ≡ b →
+pub kind_there : (n : Names) → IsSound n → (dir : ℕ) (name : List ℕ) (ino : ℕ) (i : IsThere n dir name ino) (b : Bool) → names.is_file n ino ≡ b →
     i.entry.directory ≡ not b
 kind_there n s dir name ino i b q = turned i.entry.directory b (sym (file_at n s i.entry i.has) ∙ (ap (names.is_file n) i.its ∙ q))
   where

@@ -17,6 +17,7 @@ ghost use Rattle.st_laws_volume.specs.Logs.{InEveryRun, LogsAgree};
 ghost use Rattle.st_laws_volume.specs.LossMarks.{LatePagesHaveFailed, LossesAreMet, PagesAreOnce};
 ghost use Rattle.st_laws_volume.specs.Notices.{AsksHaveNoticed};
 ghost use Rattle.st_laws_volume.specs.Reads.{PagesAgree, ReadsGiveThePages};
+ghost use Rattle.st_laws_volume.specs.Refusals.{RefusalsAreNoticed};
 ghost use Rattle.st_laws_volume.specs.Requests.{RequestsAreForTheirAsks, RequestsFindNone, RequestsHaveAsks, RequestsHaveEffects, RequestsTakeEffectInOrder};
 ghost use Rattle.st_laws_volume.specs.ResultAnswers.{gives_result};
 ghost use Rattle.st_laws_volume.specs.Results.{OrphansHaveNoResult, ResultsAreOfCutsAndNames};
@@ -285,6 +286,14 @@ pub fn disk_faults_are_taken()
 /// noticed what there is now to notice.
 pub fn asks_have_noticed()
     ensures { InEveryRun AsksHaveNoticed }
+{}
+
+/// In every run, as a server refuses a request since the file doesn't exist, each open ask of that
+/// file has noticed so, if the volume has taken the steps of all events before it. As a server
+/// refuses a remove since its client doesn't hold the file under that name, each open ask to remove
+/// another file under that name has noticed this file.
+pub fn refusals_are_noticed()
+    ensures { InEveryRun RefusalsAreNoticed }
 {}
 
 /// In every run each request for a cut or a name that a server serves and does belongs to an ask of

@@ -1,0 +1,73 @@
+-- A server's refusals: what the open asks that they may answer have noticed before.
+use Rattle.std.specs.Prelude.{◌≡◌, ℕ, Bool, true, false, ◌&&◌, not, ◌==◌, nat_lt, if◌then◌else◌, List, Option, Some, None, ⊤}
+use Rattle.st_base.specs.declared.ids.GrantNo.{GrantNo}
+use Rattle.st_base.specs.declared.ids.NodeId.{NodeId}
+use Rattle.st_base.specs.declared.ids.NodeId.TheVariants as nodes
+use Rattle.st_base.specs.declared.ids.ServerId.{ServerId}
+use Rattle.st_base.specs.declared.names.NameAsk.TheVariants as names
+use Rattle.st_messages.specs.declared.ask.Ask.{Ask}
+use Rattle.st_messages.specs.declared.ask.Ask.TheVariants as asks
+use Rattle.st_messages.specs.declared.event.Event.{Event}
+use Rattle.st_messages.specs.declared.event.Event.TheVariants as events
+use Rattle.st_messages.specs.declared.message.Body.{Body}
+use Rattle.st_messages.specs.declared.message.Body.TheVariants as bodies
+use Rattle.st_messages.specs.declared.message.Message.{Message}
+use Rattle.st_messages.specs.declared.message.NameOp.TheVariants as ops
+use Rattle.st_messages.specs.declared.message.Why.TheVariants as why
+use Rattle.st_rules.specs.declared.world.SentMessage.{SentMessage}
+use Rattle.st_rules.specs.Safety.{Promise}
+use Rattle.st_rules.specs.Server.{ServerNode, rule}
+use Rattle.st_rules.specs.World.{World, message_of, node_of, receiver_of}
+use Rattle.st_lemmas.specs.Lists.{Has}
+use Rattle.st_laws_volume.specs.Options.{OnSome}
+use Rattle.st_laws_volume.specs.Witness.{led_to, now_at, same_text, turn_of}
+use Rattle.st_volume.specs.Pages.{same_file}
+use Rattle.st_volume.specs.Volume.{Pending, Volume, file_of}
+
+-- what a server that runs replies by the rule of the request
+abbrev pub reply_at : World → ServerId → Option ServerNode → Message → Option Body
+reply_at w s None m = None
+reply_at w s (Some node) m =
+    if node.running then (rule (turn_of node (now_at w s)) (now_at w s) m.header m.body).reply else None
+
+-- an ask to remove under this name of a server another file than the one that is there
+abbrev pub removes_other : ServerId → ℕ → List ℕ → ℕ → Ask → Bool
+removes_other s dir name there (asks.Name r (names.Remove d n ino)) = (r.0 == s.0) && (same_text dir name d n && not (there == ino))
+removes_other s dir name there ask = false
+
+-- Each open ask of a file that the server refuses, since it doesn't exist, has noticed so. If the server refuses a remove, since its client doesn't hold the
+-- file under that name, each open ask to remove another file under that name has noticed this file.
+pub record IsNoticed (v : Volume) (s : ServerId) (asked : Body) (reply : Option Body) : Type 0 where
+  pub missed :
+      (ino n : ℕ)
+      → reply ≡ Some (bodies.Nack why.NoFile ino n)
+      → nat_lt 0 ino ≡ true
+      → (a : Pending)
+      → Has a v.pending
+      → same_file (file_of a.ask) (record { server = s; ino = ino }) ≡ true
+      → a.missed ≡ true
+  pub other :
+      (dir : ℕ) (name : List ℕ) (g : GrantNo) (ino n : ℕ)
+      → asked ≡ bodies.Name (ops.Remove dir name g)
+      → reply ≡ Some (bodies.Nack why.NotHolder ino n)
+      → (a : Pending)
+      → Has a v.pending
+      → removes_other s dir name ino a.ask ≡ true
+      → a.other ≡ true
+
+-- at the delivery of a request
+abbrev pub AtReceiver : Volume → World → Message → NodeId → Type 0
+AtReceiver v w m (nodes.Server s) = IsNoticed v s m.body (reply_at w s (node_of w s) m)
+AtReceiver v w m (nodes.Client c) = ⊤
+
+abbrev pub OfRefused : Volume → World → Option SentMessage → Type 0
+OfRefused v w None = ⊤
+OfRefused v w (Some m) = AtReceiver v w m.message (receiver_of m)
+
+abbrev pub IsNoticedAt : Volume → World → Event → Type 0
+IsNoticedAt v w (events.Deliver k) = OfRefused v w (message_of w k)
+IsNoticedAt v w e = ⊤
+
+-- Refusals are noticed: at each event, if the volume has taken the steps of all events before it.
+abbrev pub RefusalsAreNoticed : Promise
+RefusalsAreNoticed past x = OnSome (λ v. IsNoticedAt v x.before.world x.event) (led_to past x).volume
