@@ -60,7 +60,9 @@ pub mod LossesMet
 pub mod LostAnswers
 pub mod LostRows
 pub mod MappedFiles
+pub mod MarksStay
 pub mod Notices
+pub mod NoticesStay
 pub mod OpenAnswers
 pub mod OpenResults
 pub mod Options
@@ -75,6 +77,7 @@ pub mod ReadPatches
 pub mod ReadRanges
 pub mod RefusalNotices
 pub mod RemoveGrants
+pub mod RepliesNoticed
 pub mod RequestAsks
 pub mod RequestEffects
 pub mod RequestGrants

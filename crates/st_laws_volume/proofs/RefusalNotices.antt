@@ -71,7 +71,7 @@ use Rattle.st_volume.specs.Volume.{Pending, Volume, exists, file_of, names_other
 -- Why a server refuses.
 module _ (T : ServerTurn) (now : Stamp) (h : Header) where
   -- a reply that no file has this inode
-  abbrev Missing : ℕ → ℕ → Option Body → Type 0
+  abbrev pub Missing : ℕ → ℕ → Option Body → Type 0
   Missing ino n reply = reply ≡ Some (bodies.Nack why.NoFile ino n)
 
   missing : (i ino n : ℕ) → sv.is_file T i ≡ false → Missing ino n (sv.no_file T i).reply → sv.is_file T ino ≡ false
@@ -174,7 +174,7 @@ module _ (T : ServerTurn) (now : Stamp) (h : Header) where
   named (ops.List dir after) ino n q = listed (names.list T.state.stable.names dir after) ino n q
 
   -- only if the file isn't there
-  not_there : (b : Body) (ino n : ℕ) → Missing ino n (sv.rule T now h b).reply → sv.is_file T ino ≡ false
+  pub not_there : (b : Body) (ino n : ℕ) → Missing ino n (sv.rule T now h b).reply → sv.is_file T ino ≡ false
   unfolding sv.rule sv.keep_alive sv.acquire sv.released sv.released_by sv.map sv.map_held sv.allocate sv.allocate_held sv.cut sv.cut_held
   not_there bodies.KeepAlive ino n q = cc q
   not_there (bodies.Acquire i mode) ino n q = by_file i ino n (sv.acquire_lock T now h i mode) (locked i mode ino n) q
@@ -190,13 +190,13 @@ module _ (T : ServerTurn) (now : Stamp) (h : Header) where
   not_there b ino n q = cc q
 
   -- The file under a name, whose remove is refused.
-  abbrev NotHeld : ℕ → ℕ → Option Body → Type 0
+  abbrev pub NotHeld : ℕ → ℕ → Option Body → Type 0
   NotHeld ino n reply = reply ≡ Some (bodies.Nack why.NotHolder ino n)
 
-  abbrev IsFileAt : ℕ → List ℕ → ℕ → Type 0
+  abbrev pub IsFileAt : ℕ → List ℕ → ℕ → Type 0
   IsFileAt dir name ino = (names.lookup T.state.stable.names dir name ≡ Ok ino) × (sv.is_file T ino ≡ true)
 
-  file_there : (dir : ℕ) (name : List ℕ) (g : GrantNo) (ino n : ℕ) → NotHeld ino n (sv.rule T now h (bodies.Name (ops.Remove dir name g))).reply →
+  pub file_there : (dir : ℕ) (name : List ℕ) (g : GrantNo) (ino n : ℕ) → NotHeld ino n (sv.rule T now h (bodies.Name (ops.Remove dir name g))).reply →
       IsFileAt dir name ino
   unfolding sv.rule sv.name sv.remove sv.remove_found sv.remove_ino sv.remove_file sv.remove_dir sv.remove_by sv.name_changed sv.name_refused sv.not_holder
   file_there dir name g ino n = go (names.lookup T.state.stable.names dir name) refl
@@ -247,7 +247,7 @@ module _ (t : World) (sound : AllSound t) (bs : List Behind) (v : Volume) (agree
   marks : (a : Pending) → Has a v.pending → noticing v a ≡ a
   marks a i = each_fixed (noticing v) v.pending noticed a i
 
-  has_missed : (ino : ℕ) → names.is_file n ino ≡ false → nat_lt 0 ino ≡ true → (a : Pending) → Has a v.pending →
+  pub has_missed : (ino : ℕ) → names.is_file n ino ≡ false → nat_lt 0 ino ≡ true → (a : Pending) → Has a v.pending →
       same_file (file_of a.ask) (record { server = s; ino = ino }) ≡ true → a.missed ≡ true
   has_missed ino f above a i q =
       sym (ap (λ (b : Pending). b.missed) (marks a i))
@@ -263,7 +263,7 @@ module _ (t : World) (sound : AllSound t) (bs : List Behind) (v : Volume) (agree
       none : not (exists v (record { server = s; ino = ino })) ≡ true
       none = ap (λ o. not (is_any (trees.is_file ino) o)) its_tree ∙ ap not ((kind_is n its_sound ino).file ∙ f)
 
-  has_other : (dir : ℕ) (name : List ℕ) (ino : ℕ) → names.lookup n dir name ≡ Ok ino → names.is_file n ino ≡ true → (a : Pending) → Has a v.pending →
+  pub has_other : (dir : ℕ) (name : List ℕ) (ino : ℕ) → names.lookup n dir name ≡ Ok ino → names.is_file n ino ≡ true → (a : Pending) → Has a v.pending →
       removes_other s dir name ino a.ask ≡ true → a.other ≡ true
   has_other dir name ino found file a i q =
       sym (ap (λ (b : Pending). b.other) (marks a i))

@@ -1,5 +1,6 @@
 -- A server's refusals: what the open asks that they may answer have noticed before.
-use Rattle.std.specs.Prelude.{◌≡◌, ℕ, Bool, true, false, ◌&&◌, not, ◌==◌, nat_lt, if◌then◌else◌, List, Option, Some, None, ⊤}
+use Rattle.std.specs.Prelude.{◌≡◌, ◌≤◌, ℕ, Bool, true, false, ◌&&◌, not, ◌==◌, nat_lt, if◌then◌else◌, List, [], ◌∷◌, ◌++◌, Option, Some, None, Ok, ⊤}
+use Rattle.st_base.specs.declared.ids.ClientId.{ClientId}
 use Rattle.st_base.specs.declared.ids.GrantNo.{GrantNo}
 use Rattle.st_base.specs.declared.ids.NodeId.{NodeId}
 use Rattle.st_base.specs.declared.ids.NodeId.TheVariants as nodes
@@ -15,12 +16,15 @@ use Rattle.st_messages.specs.declared.message.Message.{Message}
 use Rattle.st_messages.specs.declared.message.NameOp.TheVariants as ops
 use Rattle.st_messages.specs.declared.message.Why.TheVariants as why
 use Rattle.st_rules.specs.declared.world.SentMessage.{SentMessage}
-use Rattle.st_rules.specs.Safety.{Promise}
+use Rattle.st_rules.specs.Names.{is_file, lookup}
+use Rattle.st_rules.specs.Safety.{Promise, Step}
 use Rattle.st_rules.specs.Server.{ServerNode, rule}
-use Rattle.st_rules.specs.World.{World, message_of, node_of, receiver_of}
+use Rattle.st_rules.specs.World.{World, message_of, node_of, receiver_of, site_of}
 use Rattle.st_lemmas.specs.Lists.{Has}
+use Rattle.st_laws_names.specs.Keys.{ServedAt}
+use Rattle.st_laws_volume.specs.Asks.{at_site}
 use Rattle.st_laws_volume.specs.Options.{OnSome}
-use Rattle.st_laws_volume.specs.Witness.{led_to, now_at, same_text, turn_of}
+use Rattle.st_laws_volume.specs.Witness.{led_by, led_to, now_at, same_text, turn_of}
 use Rattle.st_volume.specs.Pages.{same_file}
 use Rattle.st_volume.specs.Volume.{Pending, Volume, file_of}
 
@@ -71,3 +75,61 @@ IsNoticedAt v w e = ⊤
 -- Refusals are noticed: at each event, if the volume has taken the steps of all events before it.
 abbrev pub RefusalsAreNoticed : Promise
 RefusalsAreNoticed past x = OnSome (λ v. IsNoticedAt v x.before.world x.event) (led_to past x).volume
+
+-- How many asks a client had had as a step began
+abbrev pub asks_before : Step → ClientId → ℕ
+asks_before y c = (at_site (site_of y.before.world c)).count
+
+-- Each open ask that had come before a step has noticed what there was to notice of names as the step began: that its file didn't exist, and that another file
+-- had the name to be removed.
+pub record HaveNoticedAt (y : Step) (v : Volume) : Type 0 where
+  pub missed :
+      (s : ServerId) (node : ServerNode) (ino : ℕ)
+      → node_of y.before.world s ≡ Some node
+      → is_file node.state.stable.names ino ≡ false
+      → nat_lt 0 ino ≡ true
+      → (a : Pending)
+      → Has a v.pending
+      → a.op ≤ asks_before y a.client
+      → same_file (file_of a.ask) (record { server = s; ino = ino }) ≡ true
+      → a.missed ≡ true
+  pub other :
+      (s : ServerId) (node : ServerNode) (dir : ℕ) (name : List ℕ) (ino : ℕ)
+      → node_of y.before.world s ≡ Some node
+      → lookup node.state.stable.names dir name ≡ Ok ino
+      → is_file node.state.stable.names ino ≡ true
+      → (a : Pending)
+      → Has a v.pending
+      → a.op ≤ asks_before y a.client
+      → removes_other s dir name ino a.ask ≡ true
+      → a.other ≡ true
+
+-- Notices stay: after every event, of each step so far, if the volume has taken the steps of all events so far.
+abbrev pub NoticesStay : Promise
+NoticesStay past x = OnSome (λ v. (y : Step) → Has y (past ++ x ∷ []) → HaveNoticedAt y v) (led_by (led_to past x) x).volume
+
+-- So as a server served a request and refused it, for each open ask that had come before: if it replied that the file doesn't exist, an ask of this file has
+-- noticed so. If it replied that the client doesn't hold the file that it should remove, an ask to remove another file under that name has noticed this file.
+pub record HaveNoticedReply (y : Step) (v : Volume) : Type 0 where
+  pub missed :
+      (c : ClientId) (s : ServerId) (life epoch number ino n : ℕ)
+      → ServedAt y c s life epoch number (bodies.Nack why.NoFile ino n)
+      → nat_lt 0 ino ≡ true
+      → (a : Pending)
+      → Has a v.pending
+      → a.op ≤ asks_before y a.client
+      → same_file (file_of a.ask) (record { server = s; ino = ino }) ≡ true
+      → a.missed ≡ true
+  pub other :
+      (c : ClientId) (s : ServerId) (life epoch number : ℕ) (dir : ℕ) (name : List ℕ) (g : GrantNo) (ino n : ℕ)
+      → (z : ServedAt y c s life epoch number (bodies.Nack why.NotHolder ino n))
+      → z.sent.message.body ≡ bodies.Name (ops.Remove dir name g)
+      → (a : Pending)
+      → Has a v.pending
+      → a.op ≤ asks_before y a.client
+      → removes_other s dir name ino a.ask ≡ true
+      → a.other ≡ true
+
+-- Replies stay noticed: after every event, those of each step so far, if the volume has taken the steps of all events so far.
+abbrev pub RepliesStayNoticed : Promise
+RepliesStayNoticed past x = OnSome (λ v. (y : Step) → Has y (past ++ x ∷ []) → HaveNoticedReply y v) (led_by (led_to past x) x).volume

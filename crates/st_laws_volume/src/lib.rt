@@ -17,7 +17,7 @@ ghost use Rattle.st_laws_volume.specs.Logs.{InEveryRun, LogsAgree};
 ghost use Rattle.st_laws_volume.specs.LossMarks.{LatePagesHaveFailed, LossesAreMet, PagesAreOnce};
 ghost use Rattle.st_laws_volume.specs.Notices.{AsksHaveNoticed};
 ghost use Rattle.st_laws_volume.specs.Reads.{PagesAgree, ReadsGiveThePages};
-ghost use Rattle.st_laws_volume.specs.Refusals.{RefusalsAreNoticed};
+ghost use Rattle.st_laws_volume.specs.Refusals.{NoticesStay, RefusalsAreNoticed, RepliesStayNoticed};
 ghost use Rattle.st_laws_volume.specs.Requests.{RequestsAreForTheirAsks, RequestsFindNone, RequestsHaveAsks, RequestsHaveEffects, RequestsTakeEffectInOrder};
 ghost use Rattle.st_laws_volume.specs.ResultAnswers.{gives_result};
 ghost use Rattle.st_laws_volume.specs.Results.{OrphansHaveNoResult, ResultsAreOfCutsAndNames};
@@ -294,6 +294,22 @@ pub fn asks_have_noticed()
 /// another file under that name has noticed this file.
 pub fn refusals_are_noticed()
     ensures { InEveryRun RefusalsAreNoticed }
+{}
+
+/// In every run, after every event up to which the volume has taken the steps: each open ask that
+/// had come before a step so far has noticed what there was to notice of names as that step began,
+/// that its file didn't exist, and that another file had the name to be removed.
+pub fn notices_stay()
+    ensures { InEveryRun NoticesStay }
+{}
+
+/// In every run, after every event up to which the volume has taken the steps: each open ask that
+/// had come before a server served a request, and replied that the file of the ask doesn't exist,
+/// has noticed so. If the server refused the request to remove a file, since the client doesn't
+/// hold it, each open ask to remove another file under that name, that had come before, has noticed
+/// this file.
+pub fn replies_stay_noticed()
+    ensures { InEveryRun RepliesStayNoticed }
 {}
 
 /// In every run each request for a cut or a name that a server serves and does belongs to an ask of
