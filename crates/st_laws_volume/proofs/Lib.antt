@@ -42,6 +42,7 @@ pub mod Fates
 pub mod FatesTaken
 pub mod FewAsks
 pub mod FullAnswers
+pub mod GoneFiles
 pub mod HardAnswers
 pub mod HardFiles
 pub mod KeptResults

@@ -1,5 +1,5 @@
 -- A server's refusals: what the open asks that they may answer have noticed before.
-use Rattle.std.specs.Prelude.{◌≡◌, ◌≤◌, ℕ, Bool, true, false, ◌&&◌, not, ◌==◌, nat_lt, if◌then◌else◌, List, [], ◌∷◌, ◌++◌, Option, Some, None, Ok, ⊤}
+use Rattle.std.specs.Prelude.{◌≡◌, ◌≤◌, ◌<◌, ℕ, Bool, true, false, ◌&&◌, not, ◌==◌, nat_lt, if◌then◌else◌, List, [], ◌∷◌, ◌++◌, Option, Some, None, Ok, ⊤}
 use Rattle.st_base.specs.declared.ids.ClientId.{ClientId}
 use Rattle.st_base.specs.declared.ids.GrantNo.{GrantNo}
 use Rattle.st_base.specs.declared.ids.NodeId.{NodeId}
@@ -133,3 +133,15 @@ pub record HaveNoticedReply (y : Step) (v : Volume) : Type 0 where
 -- Replies stay noticed: after every event, those of each step so far, if the volume has taken the steps of all events so far.
 abbrev pub RepliesStayNoticed : Promise
 RepliesStayNoticed past x = OnSome (λ v. (y : Step) → Has y (past ++ x ∷ []) → HaveNoticedReply y v) (led_by (led_to past x) x).volume
+
+-- A file that a server lacked as a step began, although it had given its inode, doesn't exist after any later event.
+abbrev pub GoneFilesStayGone : Promise
+GoneFilesStayGone past x =
+    (y : Step)
+    → Has y (past ++ x ∷ [])
+    → (s : ServerId) (before after : ServerNode) (ino : ℕ)
+    → node_of y.before.world s ≡ Some before
+    → is_file before.state.stable.names ino ≡ false
+    → ino < before.state.stable.names.next
+    → node_of x.after.world s ≡ Some after
+    → is_file after.state.stable.names ino ≡ false

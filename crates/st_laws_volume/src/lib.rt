@@ -17,7 +17,7 @@ ghost use Rattle.st_laws_volume.specs.Logs.{InEveryRun, LogsAgree};
 ghost use Rattle.st_laws_volume.specs.LossMarks.{LatePagesHaveFailed, LossesAreMet, PagesAreOnce};
 ghost use Rattle.st_laws_volume.specs.Notices.{AsksHaveNoticed};
 ghost use Rattle.st_laws_volume.specs.Reads.{PagesAgree, ReadsGiveThePages};
-ghost use Rattle.st_laws_volume.specs.Refusals.{NoticesStay, RefusalsAreNoticed, RepliesStayNoticed};
+ghost use Rattle.st_laws_volume.specs.Refusals.{GoneFilesStayGone, NoticesStay, RefusalsAreNoticed, RepliesStayNoticed};
 ghost use Rattle.st_laws_volume.specs.Requests.{RequestsAreForTheirAsks, RequestsFindNone, RequestsHaveAsks, RequestsHaveEffects, RequestsTakeEffectInOrder};
 ghost use Rattle.st_laws_volume.specs.ResultAnswers.{gives_result};
 ghost use Rattle.st_laws_volume.specs.Results.{OrphansHaveNoResult, ResultsAreOfCutsAndNames};
@@ -310,6 +310,12 @@ pub fn notices_stay()
 /// this file.
 pub fn replies_stay_noticed()
     ensures { InEveryRun RepliesStayNoticed }
+{}
+
+/// In every run a file that a server lacked as a step began, although it had given its inode,
+/// doesn't exist after any later event.
+pub fn gone_files_stay_gone()
+    ensures { InEveryRun GoneFilesStayGone }
 {}
 
 /// In every run each request for a cut or a name that a server serves and does belongs to an ask of
