@@ -21,3 +21,4 @@ pub use header::{Header, HeaderFault, Identity, check_identity, header_of, read_
 pub use law::{a_journal_has_the_moment_of_its_last_change, an_area_is_read_in_one_way};
 pub use moment::{MomentFault, check_moment, dated_of, last_moment, read_dated};
 pub use part::{put_part, read_part};
+pub use words::{put_word16, put_word32, put_word64, split_word16, split_word32, split_word64};

@@ -6,22 +6,25 @@ ghost use Rattle.st_journal_file.specs.Layout.{word32};
 
 use std::alloc::AllocError;
 
+/// Appends a number of two bytes, the highest one first.
 #[tactic(auto, unfolding(crate::specs::Words::word16))]
-pub(crate) fn put_word16(out: &mut Vec<u8>, number: u16) -> Result<(), AllocError>
+pub fn put_word16(out: &mut Vec<u8>, number: u16) -> Result<(), AllocError>
     ensures { OnOk result (out.new.items ≡ out.old.items ++ words.word16 number) }
 {
     out.extend_from_slice(&number.to_be_bytes())
 }
 
+/// Appends a number of four bytes, the highest one first.
 #[tactic(auto, unfolding(st_journal_file::specs::Layout::word32))]
-pub(crate) fn put_word32(out: &mut Vec<u8>, number: u32) -> Result<(), AllocError>
+pub fn put_word32(out: &mut Vec<u8>, number: u32) -> Result<(), AllocError>
     ensures { OnOk result (out.new.items ≡ out.old.items ++ word32 number) }
 {
     out.extend_from_slice(&number.to_be_bytes())
 }
 
+/// Appends a number of eight bytes, the highest one first.
 #[tactic(auto, unfolding(crate::specs::Words::word64))]
-pub(crate) fn put_word64(out: &mut Vec<u8>, number: u64) -> Result<(), AllocError>
+pub fn put_word64(out: &mut Vec<u8>, number: u64) -> Result<(), AllocError>
     ensures { OnOk result (out.new.items ≡ out.old.items ++ words.word64 number) }
 {
     out.extend_from_slice(&number.to_be_bytes())
@@ -54,7 +57,7 @@ pub(crate) fn word64_of(bytes: &[u8]) -> u64
 }
 
 /// A number of two bytes, and the bytes after it.
-pub(crate) fn split_word16(bytes: &[u8]) -> (u16, &[u8])
+pub fn split_word16(bytes: &[u8]) -> (u16, &[u8])
     requires { 2 ≤ length bytes.now }
     ensures front { bytes.now ≡ words.word16 result.0 ++ result.1.now }
     ensures rest { length result.1.now + 2 ≡ length bytes.now }
@@ -64,7 +67,7 @@ pub(crate) fn split_word16(bytes: &[u8]) -> (u16, &[u8])
 }
 
 /// A number of four bytes, and the bytes after it.
-pub(crate) fn split_word32(bytes: &[u8]) -> (u32, &[u8])
+pub fn split_word32(bytes: &[u8]) -> (u32, &[u8])
     requires { 4 ≤ length bytes.now }
     ensures front { bytes.now ≡ word32 result.0 ++ result.1.now }
     ensures rest { length result.1.now + 4 ≡ length bytes.now }
@@ -74,7 +77,7 @@ pub(crate) fn split_word32(bytes: &[u8]) -> (u32, &[u8])
 }
 
 /// A number of eight bytes, and the bytes after it.
-pub(crate) fn split_word64(bytes: &[u8]) -> (u64, &[u8])
+pub fn split_word64(bytes: &[u8]) -> (u64, &[u8])
     requires { 8 ≤ length bytes.now }
     ensures front { bytes.now ≡ words.word64 result.0 ++ result.1.now }
     ensures rest { length result.1.now + 8 ≡ length bytes.now }
