@@ -1,0 +1,5 @@
+pub mod Spelled
+pub mod Applied
+pub mod Once
+pub mod Records
+pub mod Formats

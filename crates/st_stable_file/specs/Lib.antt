@@ -1,0 +1,3 @@
+pub mod Stables
+pub mod Opened
+pub mod Formats
