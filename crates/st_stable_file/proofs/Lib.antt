@@ -3,3 +3,4 @@ pub mod Applied
 pub mod Once
 pub mod Records
 pub mod Formats
+pub mod Opens

@@ -1,3 +1,4 @@
 pub mod Stables
 pub mod Opened
 pub mod Formats
+pub mod OpenedFile

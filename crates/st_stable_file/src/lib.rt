@@ -5,11 +5,13 @@
 mod area;
 mod change;
 mod fault;
+mod file;
 mod law;
 mod written;
 
 pub use area::{ChangesEnd, OpenedArea, open_area};
 pub use fault::StableFault;
+pub use file::{OpenFault, OpenedFile, open_file};
 pub use law::a_stable_file_outlives_crashes;
 pub use st_journal::Stable;
 pub use st_snapshot::SnapshotFault;
