@@ -81,11 +81,13 @@ module _ (w v : ThirdWorld) (so : Sound w) (p : People w) (c : ClientId) (old ne
   unfolding plain.crash plain.start
   becomes_person (Stepped b input q t u z) =
       let now : Stamp = clock_of w.world (nodes.Client c) in
-      let s = clients_step_on w.limits (record { plain = old.node.state; beside = b }) now input (so.fits.pairs c.0 old b there q) (so.fits.sites c.0 old there).fit in
+      let s = clients_step_on w.limits (record { plain = old.node.state; beside = b }) now input (so.fits.pairs c.0 old b there q)
+      (so.fits.sites c.0 old there).fit in
       record {
         asks =
             subst (λ (x : ClientState). (a : Association) → Has a x.associations → SessionFine a.session) (sym u)
-            (pairs_has (StepsOn old.node.state.config now) (λ (a : Association). SessionFine a.session) (λ (a : Association). SessionFine a.session) (λ a e r. r.asks) _ _ s.associations
+            (pairs_has (StepsOn old.node.state.config now) (λ (a : Association). SessionFine a.session) (λ (a : Association). SessionFine a.session)
+            (λ a e r. r.asks) _ _ s.associations
             (p.asks c.0 old there));
         id = ap (λ (x : ClientState). x.id.0) u ∙ ap (λ (i : ClientId). i.0) s.id ∙ p.ids c.0 old there;
         servers =
@@ -145,13 +147,15 @@ life_found k now s [] bs p q a e f = absurd (no e)
     no : ◌≡◌ {A = Option Association} None (Some a) → ⊥
     no q = cc
 life_found k now s (x ∷ xs) [] p q a e f = absurd p
-life_found k now s (x ∷ xs) (y ∷ ys) p q a e f = go (is_at s x) (is_at s y) (ap (λ z. same_server z s) p.one.server) e (life_found k now s xs ys p.rest q.rest a)
+life_found k now s (x ∷ xs) (y ∷ ys) p q a e f = go (is_at s x) (is_at s y) (ap (λ z. same_server z s) p.one.server) e
+    (life_found k now s xs ys p.rest q.rest a)
   where
     go : (b c : Bool) → b ≡ c → (if b then Some x else find (is_at s) xs) ≡ Some a →
         (find (is_at s) xs ≡ Some a → is_ended k now a.session ≡ true → a.life.0 + 1 ≤ (life_at (find (is_at s) ys)).0) →
         a.life.0 + 1 ≤ (life_at (if c then Some y else find (is_at s) ys)).0
     go true true i e r =
-        subst (λ (z : Association). z.life.0 + 1 ≤ y.life.0) (some_is e) (q.one (subst (λ (z : Association). is_ended k now z.session ≡ true) (sym (some_is e)) f))
+        subst (λ (z : Association). z.life.0 + 1 ≤ y.life.0) (some_is e)
+        (q.one (subst (λ (z : Association). is_ended k now z.session ≡ true) (sym (some_is e)) f))
     go false false i e r = r e f
     go true false i e r = cc i
     go false true i e r = cc i
@@ -200,8 +204,10 @@ people_first k m clients servers disks blocks most =
         low a h =
             let x = has_map (limited_association m) (map plain.fresh_association (numbers 1 servers)) a h in
             let y = has_map plain.fresh_association (numbers 1 servers) x.0 x.1 in
-            let z : a ≡ limited_association m (plain.fresh_association y.0) = x.2 ∙ ap (limited_association m) y.2 in
-            (subst (λ (b : Association). SessionFine b.session) (sym z) tt, subst (λ (b : Association). 1 ≤ b.server.0) (sym z) (numbers_between 1 servers y.0 y.1).0)
+            let z : a ≡ limited_association m (plain.fresh_association y.0) = x.2 ∙ ap (limited_association m) y.2 in (
+              subst (λ (b : Association). SessionFine b.session) (sym z) tt,
+              subst (λ (b : Association). 1 ≤ b.server.0) (sym z) (numbers_between 1 servers y.0 y.1).0,
+            )
 
         at : (o : Option WorldClient) → numbered v.clients n ≡ o → option_map (limited_site m) o ≡ Some site → (n ≤ 64) × (Person n site)
         at None q r = cc r
@@ -248,7 +254,17 @@ unheld w h ino c s e = of_site (site_of w.world c) refl e
     of_session site t a f None q r = cc r
     of_session site t a f (Some x) q r =
         let z = and_true (x.epoch.0 == h.epoch) (not (is_some (locks.lock_of x.locks ino))) r in
-        record { site = site; there = t; association = a; found = f; session = x; is = q; epoch = sym (eqb-true x.epoch.0 h.epoch z.0); free = none (locks.lock_of x.locks ino) z.1 }
+        record {
+          site = site;
+          there = t;
+          association = a;
+          found = f;
+          session = x;
+          is = q;
+          epoch = sym (eqb-true x.epoch.0 h.epoch z.0);
+          free =
+              none (locks.lock_of x.locks ino) z.1;
+        }
 
     of_association : (site : WorldClient) → site_of w.world c ≡ Some site → (o : Option Association) → find (is_at s) site.node.state.associations ≡ o →
         promises.is_unheld_in h ino (session_at o) ≡ true → Unheld w h ino c s
@@ -260,7 +276,8 @@ unheld w h ino c s e = of_site (site_of w.world c) refl e
     of_site (Some site) q r = of_association site q (find (is_at s) site.node.state.associations) refl r
 
 -- The client takes the message.
-module _ (w : ThirdWorld) (so : Sound w) (c : ClientId) (site : WorldClient) (there : site_of w.world c ≡ Some site) (runs : site.node.running ≡ true) (message : Message) where
+module _ (w : ThirdWorld) (so : Sound w) (c : ClientId) (site : WorldClient) (there : site_of w.world c ≡ Some site) (runs : site.node.running ≡ true)
+    (message : Message) where
   abbrev Input : ThirdInput
   Input = takes.Plain (inputs.Control message)
 
@@ -289,7 +306,8 @@ module _ (w : ThirdWorld) (so : Sound w) (c : ClientId) (site : WorldClient) (th
       a.life.0 + 1 ≤ (promises.life_of (every.delivers_to w message (nodes.Client c)).third.world c s).0
   rises s a f e =
       let now : Stamp = clock_of w.world (nodes.Client c) in
-      let z = clients_step_on w.limits (every.third_client site Beside) now Input (so.fits.pairs c.0 site Beside there (so.fits.there c.0 site there).1) (so.fits.sites c.0 site there).fit in
+      let z = clients_step_on w.limits (every.third_client site Beside) now Input (so.fits.pairs c.0 site Beside there (so.fits.there c.0 site there).1)
+      (so.fits.sites c.0 site there).fit in
       subst (λ (x : Life). a.life.0 + 1 ≤ x.0) (sym (ap (promises.life_at s) site_after))
       (life_found site.node.state.config now s _ _ z.associations z.over a f e)
 
@@ -336,7 +354,8 @@ module _ (t : ThirdTraced) (past : List ThirdStep) (k : ℕ) (so : Sound t.third
         let from : H.from ≡ server_node a.server = from_is H.from a.server.0 (eqb-true a.server.0 s.0 here.0) (p.servers H.to u.site u.there a here.1) in
         let named : u.site.node.state.id.0 ≡ H.to = p.ids H.to u.site u.there in
         let receiver : receiver_of t.third.world sent ≡ nodes.Client c = receiver_is t.third.world.form H.to so.form (p.few H.to u.site u.there) in
-        let runs : u.site.node.running ≡ true = sym (ap site_runs u.there) ∙ (sym (ap (is_running t.third.world) receiver) ∙ runs_there t.third k sent found q) in
+        let runs : u.site.node.running ≡ true = sym (ap site_runs u.there) ∙
+        (sym (ap (is_running t.third.world) receiver) ∙ runs_there t.third k sent found q) in
         let life : H.life ≡ a.life.0 =
         sym (eqb-true (promises.life_of t.third.world c s).0 H.life lives.0) ∙ ap (λ (x : Life). x.0) (ap (promises.life_at s) u.there ∙ ap life_at u.found) in
         let stamp : H.stamp ≡ 0 = subst (λ b. Stamped H.stamp b) is (ma.mail sent (numbered_has t.third.world.net.messages k sent found)) in
@@ -349,7 +368,8 @@ module _ (t : ThirdTraced) (past : List ThirdStep) (k : ℕ) (so : Sound t.third
         ap (λ (sc : ThirdWorldTurn). (promises.life_of sc.third.world c s).0) (sym (happens_is receiver)) ∙ after in
         above _ _ _ i j life) in
         let reach : Reaches u.site.node.state now H a u.session =
-        record { here = sym named; there = here.1; from = from; life = life; stamp = least H.stamp now.0 stamp; session = u.is; lasts = lasts; epoch = u.epoch } in
+        record { here = sym named; there = here.1; from = from; life = life; stamp = least H.stamp now.0 stamp; session = u.is; lasts = lasts; epoch = u.epoch }
+        in
         let result = answers_demands past t (third.Plain (events.Deliver k)) so q mv k sent c u.site ino g to a u.session refl found is receiver u.there reach
         (λ l e. absurd (none l (sym u.free ∙ e))) in
         any_has (promises.answers_demand H ino g) X.seen _ result.1
@@ -386,7 +406,8 @@ step_sees : (past : List ThirdStep) (t : ThirdTraced) (e : ThirdEvent) → Sound
 step_sees past t (third.Plain (events.Deliver k)) so ma p q mv = go (message_of t.third.world k) refl
   where
     go : (o : Option SentMessage) → message_of t.third.world k ≡ o →
-        promises.is_answered (steps.third_step t (third.Plain (events.Deliver k)) (every.happens (third_counted t.third) (third.Plain (events.Deliver k)))) (promises.message_at o) ≡ true
+        promises.is_answered (steps.third_step t (third.Plain (events.Deliver k)) (every.happens (third_counted t.third) (third.Plain (events.Deliver k))))
+        (promises.message_at o) ≡ true
     go None e = refl
     go (Some sent) e = body_is_seen t past k so ma p q mv sent e sent.message.body refl
 step_sees past t (third.Plain (events.Tick n)) so ma p q mv = refl

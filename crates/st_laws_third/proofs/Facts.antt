@@ -63,7 +63,19 @@ pub record ThirdNext (now : Stamp) (t u : ThirdTurn) : Type 0 where
 
 pub next_still : (now : Stamp) (t : ThirdTurn) → ThirdNext now t t
 next_still now t =
-    record { config = refl; limits = refl; server = refl; life = refl; dates = dates_same t.plain.config now (session t); fit = λ f. f; more = []; said = nothing_after (all_said t); asks = λ f. f; quiet = λ f o h. absurd h }
+    record {
+      config = refl;
+      limits = refl;
+      server = refl;
+      life = refl;
+      dates = dates_same t.plain.config now (session t);
+      fit = λ f. f;
+      more = [];
+      said =
+          nothing_after (all_said t);
+      asks = λ f. f;
+      quiet = λ f o h. absurd h;
+    }
 
 pub next_both : (now : Stamp) (t u v : ThirdTurn) → ThirdNext now t u → ThirdNext now u v → ThirdNext now t v
 next_both now t u v a b =
@@ -209,9 +221,22 @@ plain_next now t u c k =
 -- A change of the session alone.
 
 session_next : (now : Stamp) (t : ThirdTurn) (u : ClientSession) → Dates t.plain.config now (session t) (Some u) →
-    (SessionFresh t.plain.here.store (session t) → SessionFresh t.plain.here.store (Some u)) → (SessionFine (session t) → SessionFine (Some u)) → ThirdNext now t (with_plain (with_session u t.plain) t)
+    (SessionFresh t.plain.here.store (session t) → SessionFresh t.plain.here.store (Some u)) → (SessionFine (session t) → SessionFine (Some u)) →
+    ThirdNext now t (with_plain (with_session u t.plain) t)
 session_next now t u d f g =
-    record { config = refl; limits = refl; server = refl; life = refl; dates = d; fit = λ h. record { mapped = h.mapped; fresh = f h.fresh }; more = []; said = nothing_after (all_said t); asks = g; quiet = λ x o h. absurd h }
+    record {
+      config = refl;
+      limits = refl;
+      server = refl;
+      life = refl;
+      dates = d;
+      fit = λ h. record { mapped = h.mapped; fresh = f h.fresh };
+      more = [];
+      said =
+          nothing_after (all_said t);
+      asks = g;
+      quiet = λ x o h. absurd h;
+    }
 
 -- A reduction
 
@@ -262,13 +287,61 @@ change_third : (now : Stamp) (t u : ThirdTurn) → ThirdChange now t u → Third
 unfolding Rattle.st_third.specs.State.say Rattle.st_third.specs.State.plainly
 change_third now t _ (Plainly _ u c p) = plain_next now t u c p
 change_third now t _ (Says _ o w) =
-    record { config = refl; limits = refl; server = refl; life = refl; dates = dates_same t.plain.config now (session t); fit = λ f. f; more = o ∷ []; said = sym (nothing_after (all_said t ++ o ∷ [])); asks = λ f. f; quiet = λ f x h. said_word o w x h }
+    record {
+      config = refl;
+      limits = refl;
+      server = refl;
+      life = refl;
+      dates = dates_same t.plain.config now (session t);
+      fit = λ f. f;
+      more = o ∷ [];
+      said =
+          sym (nothing_after (all_said t ++ o ∷ []));
+      asks = λ f. f;
+      quiet = λ f x h. said_word o w x h;
+    }
 change_third now t _ (Leaves _ ls) =
-    record { config = refl; limits = refl; server = refl; life = refl; dates = dates_same t.plain.config now (session t); fit = λ f. f; more = []; said = nothing_after (all_said t); asks = λ f. f; quiet = λ f o h. absurd h }
+    record {
+      config = refl;
+      limits = refl;
+      server = refl;
+      life = refl;
+      dates = dates_same t.plain.config now (session t);
+      fit = λ f. f;
+      more = [];
+      said =
+          nothing_after (all_said t);
+      asks = λ f. f;
+      quiet = λ f o h. absurd h;
+    }
 change_third now t _ (IsBeside _ b) =
-    record { config = refl; limits = refl; server = refl; life = refl; dates = dates_same t.plain.config now (session t); fit = λ f. f; more = []; said = nothing_after (all_said t); asks = λ f. f; quiet = λ f o h. absurd h }
+    record {
+      config = refl;
+      limits = refl;
+      server = refl;
+      life = refl;
+      dates = dates_same t.plain.config now (session t);
+      fit = λ f. f;
+      more = [];
+      said =
+          nothing_after (all_said t);
+      asks = λ f. f;
+      quiet = λ f o h. absurd h;
+    }
 change_third now t _ (WaitsForRoom _ n) =
-    record { config = refl; limits = refl; server = refl; life = refl; dates = dates_same t.plain.config now (session t); fit = λ f. f; more = []; said = nothing_after (all_said t); asks = λ f. f; quiet = λ f o h. absurd h }
+    record {
+      config = refl;
+      limits = refl;
+      server = refl;
+      life = refl;
+      dates = dates_same t.plain.config now (session t);
+      fit = λ f. f;
+      more = [];
+      said =
+          nothing_after (all_said t);
+      asks = λ f. f;
+      quiet = λ f o h. absurd h;
+    }
 change_third now t _ (Begins _ epoch stamp e f) =
     let u : ClientSession = limited_session t.limits (new_session epoch stamp) in
     session_next now t u (subst (λ z. Dates t.plain.config now z (Some u)) (sym e) f) (λ h x q. absurd (no x q)) (λ f. tt)

@@ -81,7 +81,8 @@ notes_post sc c before (notes.CutDone f p) = post_as _ _ refl refl
 
 plain_post : (sc : WorldTurn) (c : ClientId) (before : ClientState) (o : Output) → WordFine (says.Plain o) → Post sc.world (ev.client_says sc c before o).world
 unfolding ev.client_says ev.sends ev.submits ev.answers_with
-plain_post sc c before (outputs.Send m) f = record { servers = refl; mail = λ g. one_more sc.world.net.messages (record { message = m; lost = false }) (no_demand m.header.stamp m.body f) g }
+plain_post sc c before (outputs.Send m) f =
+    record { servers = refl; mail = λ g. one_more sc.world.net.messages (record { message = m; lost = false }) (no_demand m.header.stamp m.body f) g }
 plain_post sc c before (outputs.Submit number at what) f = go (site_of sc.world c)
   where
     go : (site : Option WorldClient) → Post sc.world (ev.submits sc c site number at what).world
@@ -178,11 +179,13 @@ with_server w v s old new there m k p f = record { mail = f; kept = λ n node e.
     others n h = ap (λ xs. numbered xs n) p ∙ numbered_other w.world.servers s.0 n new (numbered_below w.world.servers s.0 old there).0 h
 
     at : (n : ℕ) (node : ServerNode) → numbered v.world.servers n ≡ Some node → (b : Bool) → (n == s.0) ≡ b → KeptFine node.state.sessions
-    at n node e true b = subst (λ (x : ServerNode). KeptFine x.state.sessions) (some_is (sym own ∙ sym (ap (numbered v.world.servers) (eqb-true n s.0 b)) ∙ e)) k
+    at n node e true b = subst (λ (x : ServerNode). KeptFine x.state.sessions) (some_is (sym own ∙ sym (ap (numbered v.world.servers) (eqb-true n s.0 b)) ∙ e))
+        k
     at n node e false b = m.kept n node (sym (others n (apart n s.0 b)) ∙ e)
 
 module _ (w : ThirdWorld) (so : Sound w) (m : Mailed w)
-    (asks : (n : ℕ) (site : WorldClient) → numbered w.world.clients n ≡ Some site → (a : Association) → Has a site.node.state.associations → SessionFine a.session) where
+    (asks : (n : ℕ) (site : WorldClient) → numbered w.world.clients n ≡ Some site → (a : Association) → Has a site.node.state.associations →
+    SessionFine a.session) where
   -- a client takes an input
   client_mails : (c : ClientId) (old site : WorldClient) → site_of w.world c ≡ Some old → site.node ≡ old.node → (input : ThirdInput) →
       Mailed (every.client_takes w c input site).third
@@ -197,7 +200,8 @@ module _ (w : ThirdWorld) (so : Sound w) (m : Mailed w)
       it_takes (Some x) q =
           let t : ThirdClientTurn = client_step w.limits (every.third_client site x) (clock_of w.world (nodes.Client c)) input in
           by_post w _ m (took_post w c site t
-          (subst (λ (s : plain.ClientNode). AllFine (client_step w.limits (record { plain = s.state; beside = x }) (clock_of w.world (nodes.Client c)) input).out) (sym e)
+          (subst (λ (s : plain.ClientNode). AllFine
+          (client_step w.limits (record { plain = s.state; beside = x }) (clock_of w.world (nodes.Client c)) input).out) (sym e)
           (client_fine w.limits (record { plain = old.node.state; beside = x }) (clock_of w.world (nodes.Client c)) input (so.fits.pairs c.0 old x there q)
           (so.fits.sites c.0 old there).fit (asks c.0 old there))))
 
@@ -233,7 +237,10 @@ module _ (w : ThirdWorld) (so : Sound w) (m : Mailed w)
       x : Fine (serving.server_step w.world.form node.state now input)
       x = server_fine w.world.form node.state now input (m.kept s.0 node e)
 
-      go : (b : Bool) → Mailed (every.as_plain w (ev.server_took w.world s (if b then Ok (server.node_turn node (serving.server_step w.world.form node.state now input)) else Err Crashed))).third
+      go : (b : Bool) →
+          Mailed
+          (every.as_plain w
+          (ev.server_took w.world s (if b then Ok (server.node_turn node (serving.server_step w.world.form node.state now input)) else Err Crashed))).third
       go true =
           let t = server.node_turn node (serving.server_step w.world.form node.state now input) in
           let p = server_all_post s t.out (quiet (ev.with_node s t.node w.world)) x.said in
@@ -288,8 +295,13 @@ module _ (w : ThirdWorld) (m : Mailed w) where
       again (Some x) q = with_server u _ s x (limited_node w.limits x) q mu (mu.kept s.0 x q) refl mu.mail
 
   crashes_mail : (n : NodeId) → is_third w.world.form ≡ true → Mailed (every.plain_happens w (events.Crash n)).third
-  unfolding every.plain_happens every.begins every.node_begins every.client_begins every.server_begins ev.happens ev.crashes ev.crashes_client ev.crashes_server ev.marks server.crash
-  crashes_mail n f = subst (λ b. Mailed (if b then every.node_begins n (every.as_plain w (ev.happens w.world (events.Crash n))) else every.as_plain w (ev.happens w.world (events.Crash n))).third) (sym f) (by_node n)
+  unfolding every.plain_happens every.begins every.node_begins every.client_begins every.server_begins ev.happens ev.crashes ev.crashes_client ev.crashes_server
+      ev.marks server.crash
+  crashes_mail n f =
+      subst
+      (λ b. Mailed
+      (if b then every.node_begins n (every.as_plain w (ev.happens w.world (events.Crash n))) else every.as_plain w
+      (ev.happens w.world (events.Crash n))).third) (sym f) (by_node n)
     where
       client : (c : ClientId) (site : Option WorldClient) →
           Mailed (every.node_begins (nodes.Client c) (every.as_plain w (ev.crashes_client w.world c site))).third
@@ -321,8 +333,13 @@ module _ (w : ThirdWorld) (m : Mailed w) where
       by_node (nodes.Server s) = server_of s (node_of w.world s) refl
 
   starts_mail : (n : NodeId) → is_third w.world.form ≡ true → Mailed (every.plain_happens w (events.Start n)).third
-  unfolding every.plain_happens every.begins every.node_begins every.client_begins every.server_begins ev.happens ev.starts ev.starts_client ev.starts_server server.start server.begin_epoch
-  starts_mail n f = subst (λ b. Mailed (if b then every.node_begins n (every.as_plain w (ev.happens w.world (events.Start n))) else every.as_plain w (ev.happens w.world (events.Start n))).third) (sym f) (by_node n)
+  unfolding every.plain_happens every.begins every.node_begins every.client_begins every.server_begins ev.happens ev.starts ev.starts_client ev.starts_server
+      server.start server.begin_epoch
+  starts_mail n f =
+      subst
+      (λ b. Mailed
+      (if b then every.node_begins n (every.as_plain w (ev.happens w.world (events.Start n))) else every.as_plain w
+      (ev.happens w.world (events.Start n))).third) (sym f) (by_node n)
     where
       client : (c : ClientId) (site : Option WorldClient) →
           Mailed (every.node_begins (nodes.Client c) (every.as_plain w (quiet (ev.starts_client w.world c site)))).third

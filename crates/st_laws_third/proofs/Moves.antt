@@ -164,7 +164,8 @@ took_server w s (Err r) = refl
 pub data Becomes (w v : ThirdWorld) (c : ClientId) (old new : WorldClient) (d : ClientBeside) : Type 0 where
   Stepped : (b : ClientBeside) (input : ThirdInput) → beside_of w c ≡ Some b → v.world.clocks ≡ w.world.clocks →
       new.node.state ≡ (client_step w.limits (record { plain = old.node.state; beside = b }) (clock_of w.world (nodes.Client c)) input).client.plain →
-      d ≡ (client_step w.limits (record { plain = old.node.state; beside = b }) (clock_of w.world (nodes.Client c)) input).client.beside → Becomes w v c old new d
+      d ≡ (client_step w.limits (record { plain = old.node.state; beside = b }) (clock_of w.world (nodes.Client c)) input).client.beside →
+      Becomes w v c old new d
   Crashed : new.node.state ≡ limited_client w.limits (plain.crash old.node.state) → d ≡ fresh_beside_client (plain.crash old.node.state) →
       Becomes w v c old new d
   Started : new.node.state ≡ limited_client w.limits (plain.start old.node.state) → d ≡ fresh_beside_client (plain.start old.node.state) →
@@ -181,7 +182,8 @@ pub data Moved (w v : ThirdWorld) : Type 0 where
   Rests : v.world.clients ≡ w.world.clients → Stays w v → v.besides ≡ w.besides → Moved w v
   Changes : (c : ClientId) (old new : WorldClient) (d : ClientBeside) → site_of w.world c ≡ Some old → Stays w v →
       numbered v.world.clients c.0 ≡ Some new → ((n : ℕ) → n ≢ c.0 → numbered v.world.clients n ≡ numbered w.world.clients n) →
-      ((b : ClientBeside) → numbered w.besides c.0 ≡ Some b → numbered v.besides c.0 ≡ Some d) → ((n : ℕ) → n ≢ c.0 → numbered v.besides n ≡ numbered w.besides n) →
+      ((b : ClientBeside) → numbered w.besides c.0 ≡ Some b → numbered v.besides c.0 ≡ Some d) →
+      ((n : ℕ) → n ≢ c.0 → numbered v.besides n ≡ numbered w.besides n) →
       Becomes w v c old new d → Moved w v
 
 stays : (w v : ThirdWorld) → v.limits ≡ w.limits → third_core v ≡ third_core w → Stays w v
@@ -289,7 +291,8 @@ module _ (w : ThirdWorld) (c : ClientId) (old mid new : WorldClient) (d : Client
       (λ n h. ap (λ xs. numbered xs n) q ∙ numbered_other w.besides c.0 n d l h) b
 
 crashes_move : (w : ThirdWorld) (n : NodeId) → is_third w.world.form ≡ true → Moved w (every.plain_happens w (events.Crash n)).third
-unfolding every.plain_happens every.begins every.node_begins every.client_begins every.server_begins ev.happens ev.crashes ev.crashes_client ev.crashes_server ev.marks plain.crash
+unfolding every.plain_happens every.begins every.node_begins every.client_begins every.server_begins ev.happens ev.crashes ev.crashes_client ev.crashes_server
+    ev.marks plain.crash
 crashes_move w n f = by_form (is_third w.world.form) f n
   where
     client : (c : ClientId) (site : Option WorldClient) → site_of w.world c ≡ site →
@@ -301,7 +304,8 @@ crashes_move w n f = by_form (is_third w.world.form) f n
         let sc : ThirdWorldTurn = every.as_plain w (ev.crashes_client w.world c (Some site)) in
         let own : site_of sc.third.world c ≡ Some mid = numbered_own w.world.clients c.0 mid site e in
         subst (λ o. Moved w (every.client_begins sc c o).third) (sym own)
-        (twice w c site mid (limited_site w.limits mid) (fresh_beside_client mid.node.state) e _ (record { config = refl; form = refl; limits = refl }) refl refl (Crashed refl refl))
+        (twice w c site mid (limited_site w.limits mid) (fresh_beside_client mid.node.state) e _ (record { config = refl; form = refl; limits = refl }) refl
+        refl (Crashed refl refl))
 
     server_of : (s : ServerId) (node : Option ServerNode) → node_of w.world s ≡ node →
         Moved w (every.node_begins (nodes.Server s) (every.as_plain w (quiet (ev.crashes_server w.world s node)))).third
@@ -317,12 +321,14 @@ crashes_move w n f = by_form (is_third w.world.form) f n
     by_node (nodes.Server s) = server_of s (node_of w.world s) refl
 
     by_form : (b : Bool) → b ≡ true → (n : NodeId) →
-        Moved w (if b then every.node_begins n (every.as_plain w (ev.happens w.world (events.Crash n))) else every.as_plain w (ev.happens w.world (events.Crash n))).third
+        Moved w (if b then every.node_begins n (every.as_plain w (ev.happens w.world (events.Crash n))) else every.as_plain w
+        (ev.happens w.world (events.Crash n))).third
     by_form true q n = by_node n
     by_form false q n = absurd cc
 
 starts_move : (w : ThirdWorld) (n : NodeId) → is_third w.world.form ≡ true → Moved w (every.plain_happens w (events.Start n)).third
-unfolding every.plain_happens every.begins every.node_begins every.client_begins every.server_begins ev.happens ev.starts ev.starts_client ev.starts_server plain.start
+unfolding every.plain_happens every.begins every.node_begins every.client_begins every.server_begins ev.happens ev.starts ev.starts_client ev.starts_server
+    plain.start
 starts_move w n f = by_form (is_third w.world.form) f n
   where
     client : (c : ClientId) (site : Option WorldClient) → site_of w.world c ≡ site →
@@ -334,7 +340,8 @@ starts_move w n f = by_form (is_third w.world.form) f n
         let sc : ThirdWorldTurn = every.as_plain w (quiet (ev.starts_client w.world c (Some site))) in
         let own : site_of sc.third.world c ≡ Some mid = numbered_own w.world.clients c.0 mid site e in
         subst (λ o. Moved w (every.client_begins sc c o).third) (sym own)
-        (twice w c site mid (limited_site w.limits mid) (fresh_beside_client mid.node.state) e _ (record { config = refl; form = refl; limits = refl }) refl refl (Started refl refl))
+        (twice w c site mid (limited_site w.limits mid) (fresh_beside_client mid.node.state) e _ (record { config = refl; form = refl; limits = refl }) refl
+        refl (Started refl refl))
 
     server_of : (s : ServerId) (node : Option ServerNode) → node_of w.world s ≡ node →
         Moved w (every.node_begins (nodes.Server s) (every.as_plain w (quiet (ev.starts_server w.world s node)))).third
@@ -350,19 +357,22 @@ starts_move w n f = by_form (is_third w.world.form) f n
     by_node (nodes.Server s) = server_of s (node_of w.world s) refl
 
     by_form : (b : Bool) → b ≡ true → (n : NodeId) →
-        Moved w (if b then every.node_begins n (every.as_plain w (ev.happens w.world (events.Start n))) else every.as_plain w (ev.happens w.world (events.Start n))).third
+        Moved w (if b then every.node_begins n (every.as_plain w (ev.happens w.world (events.Start n))) else every.as_plain w
+        (ev.happens w.world (events.Start n))).third
     by_form true q n = by_node n
     by_form false q n = absurd cc
 
 -- what an event does to the clients of a world that differs elsewhere
 pub elsewhere : (w u v : ThirdWorld) → third_core u ≡ third_core w → u.limits ≡ w.limits → Moved u v → Moved w v
 elsewhere w u v h l (Rests a k d) =
-    Rests (a ∙ ap (λ x. x.plain.clients) h) (record { config = k.config ∙ ap (λ x. x.plain.config) h; form = k.form ∙ ap (λ x. x.plain.form) h; limits = k.limits ∙ l })
+    Rests (a ∙ ap (λ x. x.plain.clients) h)
+    (record { config = k.config ∙ ap (λ x. x.plain.config) h; form = k.form ∙ ap (λ x. x.plain.form) h; limits = k.limits ∙ l })
     (d ∙ ap (λ x. x.besides) h)
 elsewhere w u v h l (Changes c old new d there k own others x y b) =
     Changes c old new d (sym (ap (λ x. numbered x.plain.clients c.0) h) ∙ there)
     (record { config = k.config ∙ ap (λ x. x.plain.config) h; form = k.form ∙ ap (λ x. x.plain.form) h; limits = k.limits ∙ l })
-    own (λ n q. others n q ∙ ap (λ x. numbered x.plain.clients n) h) (λ z e. x z (ap (λ y. numbered y.besides c.0) h ∙ e)) (λ n q. y n q ∙ ap (λ x. numbered x.besides n) h) (go b)
+    own (λ n q. others n q ∙ ap (λ x. numbered x.plain.clients n) h) (λ z e. x z (ap (λ y. numbered y.besides c.0) h ∙ e))
+    (λ n q. y n q ∙ ap (λ x. numbered x.besides n) h) (go b)
   where
     clock_same : clock_of u.world (nodes.Client c) ≡ clock_of w.world (nodes.Client c)
     clock_same = ap (λ x. unwrap_or (numbered x.plain.clocks c.0) (stamp 0)) h

@@ -84,7 +84,8 @@ with_session_fine s t f k y h = go (has_put (sessions.is_session_of s.client) s 
     go (inr i) = k y i
 
 greeted_fine : (t : Sessions) (c : ClientId) (life : Life) (rows : Bool) → KeptFine t → KeptFine (sessions.hello t c life rows).sessions
-unfolding sessions.hello sessions.hello_at sessions.hello_by sessions.hello_live sessions.hello_again sessions.hello_higher sessions.hello_ended sessions.begin_session sessions.greeted
+unfolding sessions.hello sessions.hello_at sessions.hello_by sessions.hello_live sessions.hello_again sessions.hello_higher sessions.hello_ended
+    sessions.begin_session sessions.greeted
 greeted_fine t c life rows k = go (sessions.session_of t c)
   where
     begun : KeptFine (sessions.with_new_session c life t)
@@ -116,7 +117,8 @@ greeted_fine t c life rows k = go (sessions.session_of t c)
 
 store_fine : (t : Sessions) (c : ClientId) (number : ℕ) (b : Body) → IsReply b → KeptFine t → KeptFine (sessions.store t c number b)
 unfolding sessions.store sessions.keep_reply
-store_fine t c number b r k y h = let z = has_map (sessions.keep_of c number b) t.rows y h in subst (λ (x : Session). StateFine x.state) (sym z.2) (one z.0 (sessions.is_session_of c z.0) (k z.0 z.1))
+store_fine t c number b r k y h = let z = has_map (sessions.keep_of c number b) t.rows y h in
+    subst (λ (x : Session). StateFine x.state) (sym z.2) (one z.0 (sessions.is_session_of c z.0) (k z.0 z.1))
   where
     state : (x : SessionState) → StateFine x → StateFine (sessions.kept_state number b x)
     state (states.Live last old) f = r
@@ -128,7 +130,8 @@ store_fine t c number b r k y h = let z = has_map (sessions.keep_of c number b) 
 
 end_fine : (t : Sessions) (c : ClientId) → KeptFine t → KeptFine (sessions.end t c)
 unfolding sessions.end sessions.ended
-end_fine t c k y h = let z = has_map (sessions.end_of c) t.rows y h in subst (λ (x : Session). StateFine x.state) (sym z.2) (one z.0 (sessions.is_session_of c z.0) (k z.0 z.1))
+end_fine t c k y h = let z = has_map (sessions.end_of c) t.rows y h in
+    subst (λ (x : Session). StateFine x.state) (sym z.2) (one z.0 (sessions.is_session_of c z.0) (k z.0 z.1))
   where
     one : (x : Session) (q : Bool) → StateFine x.state → StateFine (if q then sessions.ended x else x).state
     one x true f = tt
@@ -137,7 +140,8 @@ end_fine t c k y h = let z = has_map (sessions.end_of c) t.rows y h in subst (λ
 -- what was taken again is a kept reply
 taken_fine : (t : Sessions) (c : ClientId) (life : Life) (epoch : Epoch) (number : ℕ) → KeptFine t → (b : Body) →
     sessions.take t c life epoch number ≡ takes.Again b → IsReply b
-unfolding sessions.take sessions.take_at sessions.take_life sessions.take_past sessions.take_state sessions.take_number sessions.take_from sessions.take_next sessions.again
+unfolding sessions.take sessions.take_at sessions.take_life sessions.take_past sessions.take_state sessions.take_number sessions.take_from sessions.take_next
+    sessions.again
 taken_fine t c life epoch number k b = by_epoch (epoch.0 == t.epoch.0)
   where
     next : (q : Bool) → (if q then takes.Fresh else takes.OutOfOrder) ≡ takes.Again b → IsReply b
@@ -289,7 +293,8 @@ replied_fine t b r f = record { turn = f; reply = r }
 module _ (t : ServerTurn) (now : Stamp) (h : Header) (f : Fine t) where
   acquires : (ino : ℕ) (mode : Mode) → RuleFine (sv.acquire t now h ino mode)
   unfolding sv.acquire sv.acquire_lock sv.acquire_by sv.no_file
-  acquires ino mode = rule_if (sv.is_file t ino) _ _ (go (locks.acquire t.state.locks (sv.sender h) (sv.life_in h) ino mode (sv.grants_now t now))) (replied_fine t _ tt f)
+  acquires ino mode = rule_if (sv.is_file t ino) _ _ (go (locks.acquire t.state.locks (sv.sender h) (sv.life_in h) ino mode (sv.grants_now t now)))
+      (replied_fine t _ tt f)
     where
       verdict : (v : Verdict) → IsReply (sv.verdict_body ino mode v)
       verdict (verdicts.Granted g held) = tt
@@ -305,12 +310,15 @@ module _ (t : ServerTurn) (now : Stamp) (h : Header) (f : Fine t) where
 
   maps : (ino : ℕ) (g : GrantNo) (p : PageNo) → RuleFine (sv.map t h ino g p)
   unfolding sv.map sv.map_held sv.map_page sv.not_holder sv.no_file
-  maps ino g p = rule_if (sv.is_file t ino) _ _ (rule_if (sv.holds t h ino g modes.S) _ _ (replied_fine t _ tt f) (replied_fine t _ tt f)) (replied_fine t _ tt f)
+  maps ino g p = rule_if (sv.is_file t ino) _ _ (rule_if (sv.holds t h ino g modes.S) _ _ (replied_fine t _ tt f) (replied_fine t _ tt f))
+      (replied_fine t _ tt f)
 
   allocates : (ino : ℕ) (g : GrantNo) (p : PageNo) (count : ℕ) → RuleFine (sv.allocate t h ino g p count)
   unfolding sv.allocate sv.allocate_held sv.allocate_pages sv.allocate_by sv.with_extents_told sv.not_holder sv.no_file
   allocates ino g p count =
-      rule_if (sv.is_file t ino) _ _ (rule_if (sv.holds t h ino g modes.X) _ _ (go (extents.allocate t.state.stable.extents (sv.file t ino) p count)) (replied_fine t _ tt f)) (replied_fine t _ tt f)
+      rule_if (sv.is_file t ino) _ _
+      (rule_if (sv.holds t h ino g modes.X) _ _ (go (extents.allocate t.state.stable.extents (sv.file t ino) p count)) (replied_fine t _ tt f))
+      (replied_fine t _ tt f)
     where
       refused : (r : AllocateRefusal) → IsReply (sv.refused_allocation r)
       refused (wants.NoSpace free asked) = tt
@@ -326,7 +334,8 @@ module _ (t : ServerTurn) (now : Stamp) (h : Header) (f : Fine t) where
   cuts_file : (ino : ℕ) (g : GrantNo) (p : PageNo) → RuleFine (sv.cut t h ino g p)
   unfolding sv.cut sv.cut_held sv.cut_from sv.not_holder sv.no_file
   cuts_file ino g p =
-      rule_if (sv.is_file t ino) _ _ (rule_if (sv.holds t h ino g modes.X) _ _ (replied_fine _ _ tt (cuts t ino p f)) (replied_fine t _ tt f)) (replied_fine t _ tt f)
+      rule_if (sv.is_file t ino) _ _ (rule_if (sv.holds t h ino g modes.X) _ _ (replied_fine _ _ tt (cuts t ino p f)) (replied_fine t _ tt f))
+      (replied_fine t _ tt f)
 
   changes_names : (r : Result names.Changed EntryRefusal) → RuleFine (sv.name_changed t r)
   unfolding sv.name_changed sv.name_refused
@@ -418,7 +427,12 @@ module _ (t : ServerTurn) (now : Stamp) (h : Header) (f : Fine t) where
       new : (r : Result grace.Accepted AcceptRefusal) →
           grace.accept t.state.grace now (sv.sender h) (sv.life_in h) rows t.state.locks t.state.sessions ≡ r → Fine (sv.reassert_by t h r)
       new (Ok a) e =
-          reply_fine _ h _ tt (record { kept = subst KeptFine (sym (accepted_sessions t.state.grace now (sv.sender h) (sv.life_in h) rows t.state.locks t.state.sessions a e)) (with_session_fine (sessions.reasserted_session (sv.sender h) (sv.life_in h)) t.state.sessions tt f.kept); said = f.said })
+          reply_fine _ h _ tt
+          (record {
+            kept = subst KeptFine (sym (accepted_sessions t.state.grace now (sv.sender h) (sv.life_in h) rows t.state.locks t.state.sessions a e))
+                (with_session_fine (sessions.reasserted_session (sv.sender h) (sv.life_in h)) t.state.sessions tt f.kept);
+            said = f.said;
+          })
       new (Err r) e = reply_fine t h _ (refused r) f
 
   greets_fine : Fine (sv.hello t now h)

@@ -68,47 +68,64 @@ begun_none m f n s (a ∷ as_) = go (is_at s (limited_association m (f a))) (beg
 
 module _ (w v : ThirdWorld) (so : Sound w) (c : ClientId) (old new : WorldClient) (d : ClientBeside) (there : site_of w.world c ≡ Some old) where
   becomes_fresh : Becomes w v c old new d → (s : ServerId) →
-      is_fresh_in w.world.config.renew (clock_of v.world (nodes.Client c)) (session_at (association_at s (Some old))) (session_at (association_at s (Some new))) ≡ true
+      is_fresh_in w.world.config.renew (clock_of v.world (nodes.Client c)) (session_at (association_at s (Some old))) (session_at (association_at s (Some new)))
+      ≡ true
   unfolding plain.crash plain.start
   becomes_fresh (Stepped b input q t u z) s =
       let o = so.fits.sites c.0 old there in
       let now : Stamp = clock_of w.world (nodes.Client c) in
       let x = clients_step_on w.limits (record { plain = old.node.state; beside = b }) now input (so.fits.pairs c.0 old b there q) o.fit in
-      let same : now ≡ clock_of v.world (nodes.Client c) = ap (λ ts. Rattle.std.specs.Prelude.unwrap_or (numbered ts c.0) (Rattle.st_rules.specs.World.stamp 0)) (sym t) in
+      let same : now ≡ clock_of v.world (nodes.Client c) =
+      ap (λ ts. Rattle.std.specs.Prelude.unwrap_or (numbered ts c.0) (Rattle.st_rules.specs.World.stamp 0)) (sym t) in
       subst (λ z. is_fresh_in w.world.config.renew z (session_at (association_at s (Some old))) (session_at (association_at s (Some new))) ≡ true) same
       (subst (λ (k : Config). is_fresh_in k.renew now (session_at (association_at s (Some old))) (session_at (association_at s (Some new))) ≡ true) o.config
-      (subst (λ (y : ClientState). is_fresh_in old.node.state.config.renew now (session_at (find (is_at s) old.node.state.associations)) (session_at (find (is_at s) y.associations)) ≡ true) (sym u)
+      (subst (λ (y : ClientState). is_fresh_in old.node.state.config.renew now (session_at (find (is_at s) old.node.state.associations))
+      (session_at (find (is_at s) y.associations)) ≡ true) (sym u)
       (pairs_fresh old.node.state.config now s _ _ x.associations)))
   becomes_fresh (Crashed u z) s =
-      subst (λ (y : Option ClientSession). is_fresh_in w.world.config.renew (clock_of v.world (nodes.Client c)) (session_at (association_at s (Some old))) y ≡ true)
-      (sym (ap (λ (x : ClientState). session_at (find (is_at s) x.associations)) u ∙ begun_none w.limits plain.crashed_association (λ a. refl) s old.node.state.associations))
+      subst (λ (y : Option ClientSession). is_fresh_in w.world.config.renew (clock_of v.world (nodes.Client c)) (session_at (association_at s (Some old))) y ≡
+      true)
+      (sym (ap (λ (x : ClientState). session_at (find (is_at s) x.associations)) u ∙
+      begun_none w.limits plain.crashed_association (λ a. refl) s old.node.state.associations))
       (none_fresh w.world.config.renew (clock_of v.world (nodes.Client c)) (session_at (association_at s (Some old))))
   becomes_fresh (Started u z) s =
-      subst (λ (y : Option ClientSession). is_fresh_in w.world.config.renew (clock_of v.world (nodes.Client c)) (session_at (association_at s (Some old))) y ≡ true)
-      (sym (ap (λ (x : ClientState). session_at (find (is_at s) x.associations)) u ∙ begun_none w.limits plain.started_association (λ a. refl) s old.node.state.associations))
+      subst (λ (y : Option ClientSession). is_fresh_in w.world.config.renew (clock_of v.world (nodes.Client c)) (session_at (association_at s (Some old))) y ≡
+      true)
+      (sym (ap (λ (x : ClientState). session_at (find (is_at s) x.associations)) u ∙
+      begun_none w.limits plain.started_association (λ a. refl) s old.node.state.associations))
       (none_fresh w.world.config.renew (clock_of v.world (nodes.Client c)) (session_at (association_at s (Some old))))
 
 -- After an event.
 module _ (w v : ThirdWorld) (so : Sound w) where
   fresh_after : Moved w v → (c : ClientId) (s : ServerId) →
-      is_fresh_in v.world.config.renew (clock_of v.world (nodes.Client c)) (session_at (association_at s (site_of w.world c))) (session_at (association_at s (site_of v.world c))) ≡ true
+      is_fresh_in v.world.config.renew (clock_of v.world (nodes.Client c)) (session_at (association_at s (site_of w.world c)))
+      (session_at (association_at s (site_of v.world c))) ≡ true
   fresh_after (Rests p k q) c s =
-      subst (λ o. is_fresh_in v.world.config.renew (clock_of v.world (nodes.Client c)) (session_at (association_at s (site_of w.world c))) (session_at (association_at s o)) ≡ true)
-      (sym (ap (λ xs. numbered xs c.0) p)) (same_fresh v.world.config.renew (clock_of v.world (nodes.Client c)) (session_at (association_at s (site_of w.world c))))
+      subst (λ o. is_fresh_in v.world.config.renew (clock_of v.world (nodes.Client c)) (session_at (association_at s (site_of w.world c)))
+      (session_at (association_at s o)) ≡ true)
+      (sym (ap (λ xs. numbered xs c.0) p))
+      (same_fresh v.world.config.renew (clock_of v.world (nodes.Client c)) (session_at (association_at s (site_of w.world c))))
   fresh_after (Changes e old new d there k own others x y b) c s = go (c.0 == e.0) refl
     where
       go : (r : Bool) → (c.0 == e.0) ≡ r →
-          is_fresh_in v.world.config.renew (clock_of v.world (nodes.Client c)) (session_at (association_at s (site_of w.world c))) (session_at (association_at s (site_of v.world c))) ≡ true
+          is_fresh_in v.world.config.renew (clock_of v.world (nodes.Client c)) (session_at (association_at s (site_of w.world c)))
+          (session_at (association_at s (site_of v.world c))) ≡ true
       go true r =
           let i : e ≡ c = ap (λ n. record { 0 = n }) (sym (eqb-true c.0 e.0 r)) in
-          subst (λ z. is_fresh_in v.world.config.renew (clock_of v.world (nodes.Client z)) (session_at (association_at s (site_of w.world z))) (session_at (association_at s (site_of v.world z))) ≡ true) i
-          (subst (λ o. is_fresh_in v.world.config.renew (clock_of v.world (nodes.Client e)) (session_at (association_at s o)) (session_at (association_at s (site_of v.world e))) ≡ true) (sym there)
-          (subst (λ o. is_fresh_in v.world.config.renew (clock_of v.world (nodes.Client e)) (session_at (association_at s (Some old))) (session_at (association_at s o)) ≡ true) (sym own)
-          (subst (λ (z : Config). is_fresh_in z.renew (clock_of v.world (nodes.Client e)) (session_at (association_at s (Some old))) (session_at (association_at s (Some new))) ≡ true) (sym k.config)
+          subst (λ z. is_fresh_in v.world.config.renew (clock_of v.world (nodes.Client z)) (session_at (association_at s (site_of w.world z)))
+          (session_at (association_at s (site_of v.world z))) ≡ true) i
+          (subst (λ o. is_fresh_in v.world.config.renew (clock_of v.world (nodes.Client e)) (session_at (association_at s o))
+          (session_at (association_at s (site_of v.world e))) ≡ true) (sym there)
+          (subst (λ o. is_fresh_in v.world.config.renew (clock_of v.world (nodes.Client e)) (session_at (association_at s (Some old)))
+          (session_at (association_at s o)) ≡ true) (sym own)
+          (subst (λ (z : Config). is_fresh_in z.renew (clock_of v.world (nodes.Client e)) (session_at (association_at s (Some old)))
+          (session_at (association_at s (Some new))) ≡ true) (sym k.config)
           (becomes_fresh w v so e old new d there b s))))
       go false r =
-          subst (λ o. is_fresh_in v.world.config.renew (clock_of v.world (nodes.Client c)) (session_at (association_at s (site_of w.world c))) (session_at (association_at s o)) ≡ true)
-          (sym (others c.0 (apart c.0 e.0 r))) (same_fresh v.world.config.renew (clock_of v.world (nodes.Client c)) (session_at (association_at s (site_of w.world c))))
+          subst (λ o. is_fresh_in v.world.config.renew (clock_of v.world (nodes.Client c)) (session_at (association_at s (site_of w.world c)))
+          (session_at (association_at s o)) ≡ true)
+          (sym (others c.0 (apart c.0 e.0 r)))
+          (same_fresh v.world.config.renew (clock_of v.world (nodes.Client c)) (session_at (association_at s (site_of w.world c))))
 
 -- Over a run.
 
@@ -118,11 +135,13 @@ all_true f h (x ∷ xs) = ap (λ b. b && list_all f xs) (h x) ∙ all_true f h x
 
 pub every_welcome_is_fresh : EveryWelcomeIsFresh
 every_welcome_is_fresh k m clients servers disks blocks es =
-    kept_throughout WelcomesAreFresh one es [] (steps.third_traced (third_world k m clients servers disks blocks 3)) (sound_first k m clients servers disks blocks)
+    kept_throughout WelcomesAreFresh one es [] (steps.third_traced (third_world k m clients servers disks blocks 3))
+    (sound_first k m clients servers disks blocks)
   where
     one : (past : List ThirdStep) (t : ThirdTraced) (e : ThirdEvent) → Sound t.third → worlds.refusal t.third e ≡ None →
         Moved t.third (every.happens (third_counted t.third) e).third → WelcomesAreFresh past (steps.third_step t e (every.happens (third_counted t.third) e))
     one past t e so q m =
         let sc : ThirdWorldTurn = every.happens (third_counted t.third) e in
         let x : ThirdStep = steps.third_step t e sc in
-        all_true (is_fresh x) (λ c. all_true (is_fresh_at x c) (λ s. fresh_after t.third sc.third so m c s) (all_servers sc.third.world)) (all_clients sc.third.world)
+        all_true (is_fresh x) (λ c. all_true (is_fresh_at x c) (λ s. fresh_after t.third sc.third so m c s) (all_servers sc.third.world))
+        (all_clients sc.third.world)

@@ -183,7 +183,8 @@ change_adds now t _ (Caches _ clean) = still t _ refl refl (λ pc i. i) refl
 change_adds now t _ (Writes _ s f p bytes n e sv own m x) =
     quiet t _ (outputs.Note n ∷ []) refl refl (λ pc i. (has_filter (λ c. not (pages.is_read_of f.ino p c)) t.here.store.commands pc i).0) refl
     (one_more (outputs.Note n) tt)
-change_adds now t _ (Reads _ ino p m i clean) = submitted t _ (pages.page_command t.next_command ino p io.Read) m.at (commands.Read m.at) refl refl refl refl refl refl
+change_adds now t _ (Reads _ ino p m i clean) = submitted t _ (pages.page_command t.next_command ino p io.Read) m.at (commands.Read m.at) refl refl refl refl
+    refl refl
 change_adds now t _ (Submits _ s ino p d m e i k w) =
     submitted t _ (pages.page_command t.next_command d.ino d.page (io.Write d.version)) m.at
     (commands.Write m.at (record { file = cp.file t d.ino; page = d.page; birth = m.birth }) d.bytes) refl refl refl refl refl refl
@@ -447,7 +448,8 @@ module _ (n first : ℕ) (old : List Association) where
       record {
         low = h.low;
         said = λ number at what i. h.said number at what (less number at what i);
-        each = λ b i. let z = h.each b i in record { below = z.below; from = z.from; placed = λ pc j number at what k q. z.placed pc j number at what (less number at what k) q };
+        each = λ b i. let z = h.each b i in
+            record { below = z.below; from = z.from; placed = λ pc j number at what k q. z.placed pc j number at what (less number at what k) q };
       }
     where
       less : (number : ℕ) (at : BlockAt) (what : Command) → Has (outputs.Submit number at what) (t.out ++ outputs.Answer op a ∷ []) →

@@ -127,7 +127,8 @@ module _ (past : List Step) (w : World) (c : ClientId) (old site : WorldClient) 
       step_fine size c site.node.state now input told
       (subst (λ (n : cl.ClientNode). (b : Association) → Has b n.state.associations → Fit b) same (l.lives.sites c old there).fit)
       (subst (λ (n : cl.ClientNode). (b : Association) → Has b n.state.associations → Knows size b.server b.store.extents) same (pl.known c old there))
-      (subst (λ (n : cl.ClientNode). (b : Association) → Has b n.state.associations → (pc : PageCommand) → Has pc b.store.commands → pc.number < n.state.next_command)
+      (subst (λ (n : cl.ClientNode). (b : Association) → Has b n.state.associations → (pc : PageCommand) → Has pc b.store.commands →
+      pc.number < n.state.next_command)
       same (λ a i. (cared.cared a i).below))
 
   from : (k : ℕ) (x : IssuedCommand) → numbered v.commands k ≡ Some x →
@@ -166,7 +167,8 @@ module _ (past : List Step) (w : World) (c : ClientId) (old site : WorldClient) 
           older : IsIts c old.starts pc.number x
           older = record { client = its.client; instance_ = its.instance_ ∙ sym starts; number_is = its.number_is }
 
-          go : IsOld size site.node.state.next_command site.node.state.associations a.server pc ⊎ (site.node.state.next_command ≤ pc.number) → x.server ≡ a.server
+          go : IsOld size site.node.state.next_command site.node.state.associations a.server pc ⊎ (site.node.state.next_command ≤ pc.number) →
+              x.server ≡ a.server
           go (inl (y, (m, (e, n)))) =
               h c old there (ap (λ (n : cl.ClientNode). n.running) same ∙ runs) y
               (subst (λ (n : cl.ClientNode). Has y n.state.associations) (sym same) m) pc n k x q older ∙ e
@@ -246,7 +248,8 @@ own_or_other : (w : World) (c d : ClientId) (site new y : WorldClient) → site_
 own_or_other w c d site new y there e = go (same_or_not d.0 c.0)
   where
     go : (d.0 ≡ c.0) ⊎ (d.0 ≢ c.0) → ((d ≡ c) × (y ≡ new)) ⊎ (numbered w.clients d.0 ≡ Some y)
-    go (inl q) = inl (ap (λ n. record { 0 = n }) q, some_is (sym e ∙ ap (numbered (with_numbered c.0 new w.clients)) q ∙ numbered_own w.clients c.0 new site there))
+    go (inl q) =
+        inl (ap (λ n. record { 0 = n }) q, some_is (sym e ∙ ap (numbered (with_numbered c.0 new w.clients)) q ∙ numbered_own w.clients c.0 new site there))
     go (inr n) = inr (sym (numbered_other w.clients c.0 d.0 new (numbered_below w.clients c.0 site there).0 n) ∙ e)
 
 crashed : (w : World) (c : ClientId) (site : WorldClient) → site_of w c ≡ Some site → AllServed w → AllServed (ev.crashes_client w c (Some site)).world
@@ -318,7 +321,8 @@ module _ (past : List Step) (w : World) (l : LivesHold w) (pl : PlacesAt (length
           (told n ok d q (issued_of w (suc n)) refl)
 
   happens_served : (e : Event) → adm.refusal w e ≡ None → AllServed (ev.happens w e).world
-  unfolding ev.happens ev.ticks ev.asks_at ev.delivers ev.delivers_to ev.loses_message ev.marks ev.effects ev.advances ev.crashes ev.crashes_client ev.crashes_server ev.starts ev.starts_client ev.starts_server
+  unfolding ev.happens ev.ticks ev.asks_at ev.delivers ev.delivers_to ev.loses_message ev.marks ev.effects ev.advances ev.crashes ev.crashes_client
+      ev.crashes_server ev.starts ev.starts_client ev.starts_server
   happens_served (events.Tick (nodes.Client c)) r = at_client c inputs.Tick (site_of w c) refl tt
   happens_served (events.Tick (nodes.Server s)) r = at_server w s serving.Tick (node_of w s) h
   happens_served (events.App c ask) r = go (site_of w c) refl

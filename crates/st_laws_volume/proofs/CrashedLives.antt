@@ -334,9 +334,11 @@ marked_by it v x = by (which_crash x.event)
     rest = of_delivery it.behind v w x.event ++ of_lines w x.seen
 
     calm_rest : list_all is_calm rest ≡ true
-    calm_rest = all_calm rest (both_inside (of_delivery it.behind v w x.event) (of_lines w x.seen) (delivery_inside it.behind v w x.event) (lines_inside w x.seen))
+    calm_rest =
+        all_calm rest (both_inside (of_delivery it.behind v w x.event) (of_lines w x.seen) (delivery_inside it.behind v w x.event) (lines_inside w x.seen))
 
-    by : IsCrash x.event ⊎ ((c : ClientId) → x.event ≡ events.Crash (nodes.Client c) → ⊥) → OnSome (λ u. ByEvent x.event v.log u.log) (run (of_event w x.event ++ rest) v)
+    by : IsCrash x.event ⊎ ((c : ClientId) → x.event ≡ events.Crash (nodes.Client c) → ⊥) →
+        OnSome (λ u. ByEvent x.event v.log u.log) (run (of_event w x.event ++ rest) v)
     by (inr n) =
         on_more (LogCame v) (λ u. ByEvent x.event v.log u.log) (λ u k. by_none x.event v.log u.log k) (run (of_event w x.event ++ rest) v)
         (run_came (of_event w x.event ++ rest) v (calm_then (of_event w x.event) rest (of_event_calm w x.event n) calm_rest))
@@ -456,7 +458,8 @@ Given past x = TheReportTellsTheLog past x × (ChangesAreLocked past x × FatesH
 
 after_over : (it : Witness) (x : Step) (o : Option Volume) → TheReportTellsTheLog [] x → ChangesAreLocked [] x → Adds x.before.world x.event x.after.world →
     Ends x.after.world x.event x.after.world.log → OnSome (IsLogOf x.before.world.log) o →
-    OnSome (λ v. AreOver x.before.world.ended x.before.world.log v.log) o → OnSome (λ v. AreOver x.after.world.ended x.after.world.log v.log) (volume_after it x o)
+    OnSome (λ v. AreOver x.before.world.ended x.before.world.log v.log) o →
+    OnSome (λ v. AreOver x.after.world.ended x.after.world.log v.log) (volume_after it x o)
 after_over it x None told locked adds ends a h = tt
 after_over it x (Some v) told locked adds ends a h =
     on_then Goal if_told (run (steps_of it v x) v)

@@ -179,7 +179,8 @@ module _ (asked : ℕ → Option Ask) where
       resets m y i = absurd y
 
       -- of another page
-      found : (pages.is_dirty_of ino q d ≡ true) × Has d (put (pages.is_dirty_of f.ino p) (pages.new_dirty t.here.store.pages f.ino p bytes) t.here.store.pages.dirty)
+      found : (pages.is_dirty_of ino q d ≡ true) × Has d
+          (put (pages.is_dirty_of f.ino p) (pages.new_dirty t.here.store.pages f.ino p bytes) t.here.store.pages.dirty)
       found =
           found_at (pages.is_dirty_of ino q) (put (pages.is_dirty_of f.ino p) (pages.new_dirty t.here.store.pages f.ino p bytes) t.here.store.pages.dirty) d e
 
@@ -244,7 +245,8 @@ module _ (asked : ℕ → Option Ask) where
       (b.server.0 ≡ t.here.server.0 → ⊥) → CleanOf b t.out → CleanOf b v.out
   passes_other syncs now b f t _ (only.Ends _) n h = h
   passes_other syncs now b f t v (Goes _ u _ ch q rest) n h =
-      passes_other syncs now b f u v rest (λ e. n (e ∙ sym (ap (λ (s : ServerId). s.0) (change_next now t u ch).server))) (change_other syncs now b f t u ch q n h)
+      passes_other syncs now b f u v rest (λ e. n (e ∙ sym (ap (λ (s : ServerId). s.0) (change_next now t u ch).server)))
+      (change_other syncs now b f t u ch q n h)
 
   -- Each server in turn.
   module _ (now : Stamp) where

@@ -199,7 +199,8 @@ module _ (t : World) (v : Volume) (log : IsLogOf t.log v) (entries : EntriesCarr
   told_now e r (Some y) carries =
       on_if (ItsSyncs e r y) (v.lines == length v.log) (acts v (kinds.WriteFailed r.command.client r.command.number y.index))
       (on_map (ItsSyncs e r y) (failed v r.command.client r.command.number y.index)
-      (option_and_then (λ (x : Entry). place_of x.what) (volume.numbered v.log y.index)) (go (option_and_then (λ (x : Entry). place_of x.what) (volume.numbered v.log y.index)) refl))
+      (option_and_then (λ (x : Entry). place_of x.what) (volume.numbered v.log y.index))
+      (go (option_and_then (λ (x : Entry). place_of x.what) (volume.numbered v.log y.index)) refl))
     where
       go : (o : Option (FileId × PageNo)) → option_and_then (λ (x : Entry). place_of x.what) (volume.numbered v.log y.index) ≡ o →
           OnSome (λ z. ItsSyncs e r y (failed v r.command.client r.command.number y.index z)) o
@@ -381,7 +382,8 @@ module _ (past : List Step) (t : Traced) (e : Event) (sc : WorldTurn) (v : Volum
       event_none is_disk_fault only_faults t.world it v sc.seen e (subst (NoneOf is_disk_fault) (sym q) tt)
   event_faults it agree asked results followed opened (Steps r) =
       taken_at is_disk_fault (steps_of it v (step t e sc)) v
-      (event_fine (Takes is_disk_fault) (takes_silent is_disk_fault only_faults) Fact (Fits t.world r.client start r.input r.site.node.state.associations) past (step t e sc)
+      (event_fine (Takes is_disk_fault) (takes_silent is_disk_fault only_faults) Fact (Fits t.world r.client start r.input r.site.node.state.associations) past
+      (step t e sc)
       (answer_fine r.client r.site r.input start r.at r.takes refl) it v
       (none_served it.behind v t.world e r.client r.site r.input r.takes) log.lines asked agree opened
       (on_more (λ u. AllRight None u × AllRemember t.world e u) (AtEachStep Fact (of_lines t.world sc.seen))

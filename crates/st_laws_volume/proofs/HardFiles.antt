@@ -193,7 +193,8 @@ module _ (past : List Step) (t : Traced) (e : Event) (sc : WorldTurn) (stand : S
         ∙ step_clean asked r.now r.client state r.input holds.fit holds.once known (tells r.input r.takes) a
         (subst (λ (z : ClientState). Has a z.associations) r.state_is i) ino p d q))
 
-  clean_by : AnswersOf t.world e sc → (c : ClientId) (site : WorldClient) (a : Association) (ino : ℕ) (p : PageNo) (d : DirtyPage) → site_of sc.world c ≡ Some site →
+  clean_by : AnswersOf t.world e sc → (c : ClientId) (site : WorldClient) (a : Association) (ino : ℕ) (p : PageNo) (d : DirtyPage) →
+      site_of sc.world c ≡ Some site →
       Has a site.node.state.associations → pages.dirty_of a.store.pages ino p ≡ Some d → after_lines (ask_of past x' c) c a.server ino p false sc.seen ≡ false
   clean_by (GivesNone q) c site a ino p d at i z = other_quiet (ask_of past x' c) c a.server ino p sc.seen (subst (AllOther c) (sym q) tt)
   clean_by (Steps r) c site a ino p d at i z = by (same_or_not r.client.0 c.0)

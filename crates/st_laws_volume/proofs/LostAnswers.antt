@@ -91,7 +91,8 @@ any_front p (x ∷ xs) ys q = go (p x) q (any_front p xs ys)
     go false q r = r q
 
 -- A row of the page of an entry that is dropped tells it.
-page_told : (c : ClientId) (f : FileId) (o : LogEntry) (e : Entry) → IsSame o e → IsOn c f o → is_by c e ≡ true → is_dropped e.fate ≡ true → (rows : List LostRow)
+page_told : (c : ClientId) (f : FileId) (o : LogEntry) (e : Entry) → IsSame o e → IsOn c f o → is_by c e ≡ true → is_dropped e.fate ≡ true →
+    (rows : List LostRow)
     (r : LostRow) → Has r rows → r.page ≡ o.of.page → is_told c f rows e ≡ true
 page_told c f o e s k by dropped rows r i page =
     some_passes (λ (z : LostRow). is_by_at c (f, z.page) e && (is_dropped e.fate || (e.failed == z.command))) rows r i
@@ -119,248 +120,254 @@ loss_silent it u q = tt
 -- An event in which a client takes a step.
 module _ (past : List Step) (t : Traced) (e : Event) (sc : WorldTurn) (happened : world_step t.world e ≡ Ok sc) (it : Witness) (held : MetHold past t it)
     (later : FatesHold sc.world) (v : Volume) (a : IsLogOf t.world.log v) (right : AreOf (asks_of past) v) (marked : MarksOf t.world v)
-    (met : AreMet (owed past) (IsLate t.world) t.world.log v) (wait : AllWait v) (whole : IsLogTold sc.world t.world.log sc.seen) (r : Stepping t.world e sc) where
-  abbrev w : World
-  w = t.world
+    (met : AreMet (owed past) (IsLate t.world) t.world.log v) (wait : AllWait v) (whole : IsLogTold sc.world t.world.log sc.seen) (r : Stepping t.world e sc)
+  where
+    abbrev w : World
+    w = t.world
 
-  abbrev x' : Step
-  x' = step t e sc
+    abbrev x' : Step
+    x' = step t e sc
 
-  abbrev as_ : Asked
-  as_ = asks_of (past ++ x' ∷ [])
+    abbrev as_ : Asked
+    as_ = asks_of (past ++ x' ∷ [])
 
-  abbrev c : ClientId
-  c = r.client
+    abbrev c : ClientId
+    c = r.client
 
-  abbrev s : ClientState
-  s = r.site.node.state
+    abbrev s : ClientState
+    s = r.site.node.state
 
-  abbrev start : List (ℕ × Ask)
-  start = map key s.operations ++ coming r.input
+    abbrev start : List (ℕ × Ask)
+    start = map key s.operations ++ coming r.input
 
-  calm : gives_fates e ≡ false
-  calm = step_calm w e c r.site r.input r.takes
+    calm : gives_fates e ≡ false
+    calm = step_calm w e c r.site r.input r.takes
 
-  abbrev State : List Observation → List Observation → List LogEntry → Volume → Type 0
-  State = hard.State past t e sc happened it held later v a right marked met wait calm whole
+    abbrev State : List Observation → List Observation → List LogEntry → Volume → Type 0
+    State = hard.State past t e sc happened it held later v a right marked met wait calm whole
 
-  order : Ordered w c s r.input start sc.seen
-  order = ordered w e sc r (held.failures.stand.stand.fates.lives.lives.sites c r.site r.at).fit start refl
+    order : Ordered w c s r.input start sc.seen
+    order = ordered w e sc r (held.failures.stand.stand.fates.lives.lives.sites c r.site r.at).fit start refl
 
-  starts : AllAsked w e as_ → (j : ℕ × Ask) → Has j start → world.numbered (as_ c) j.0 ≡ Some j.1
-  starts all j i =
-      all c j
-      (subst (Has j) (sym (ap (λ o. (told_all c (of_event w e) (at_site o)).pending) r.at ∙ comes_to w e c r.site r.input r.takes)) i)
+    starts : AllAsked w e as_ → (j : ℕ × Ask) → Has j start → world.numbered (as_ c) j.0 ≡ Some j.1
+    starts all j i =
+        all c j
+        (subst (Has j) (sym (ap (λ o. (told_all c (of_event w e) (at_site o)).pending) r.at ∙ comes_to w e c r.site r.input r.takes)) i)
 
-  abbrev IsWhole : ClientId → FileId → List LostRow → Volume → Type 0
-  IsWhole d f rows u = (nat_le 1024 (length rows) || not (list_any (is_left d f rows) u.log)) ≡ true
+    abbrev IsWhole : ClientId → FileId → List LostRow → Volume → Type 0
+    IsWhole d f rows u = (nat_le 1024 (length rows) || not (list_any (is_left d f rows) u.log)) ≡ true
 
-  -- what holds of such an answer
-  record Whole (d : ClientId) (op : ℕ) (rows : List LostRow) (u : Volume) : Type 0 where
-    file : FileId
-    is : world.numbered (as_ d) op ≡ Some (asks.Sync file)
-    some : (nat_lt 0 (length rows) && volume.are_rising rows) ≡ true
-    left : IsWhole d file rows u
-    waits_ : AllWait u
+    -- what holds of such an answer
+    record Whole (d : ClientId) (op : ℕ) (rows : List LostRow) (u : Volume) : Type 0 where
+      file : FileId
+      is : world.numbered (as_ d) op ≡ Some (asks.Sync file)
+      some : (nat_lt 0 (length rows) && volume.are_rising rows) ≡ true
+      left : IsWhole d file rows u
+      waits_ : AllWait u
 
-  abbrev WholeAt : VolumeStep → Volume → Type 0
-  WholeAt (kinds.Answered d op (answers.Lost rows)) u = AllAsked w e as_ → Whole d op rows u
-  WholeAt (kinds.Answered d op answer) u = Unit {0}
-  WholeAt it u = Unit {0}
+    abbrev WholeAt : VolumeStep → Volume → Type 0
+    WholeAt (kinds.Answered d op (answers.Lost rows)) u = AllAsked w e as_ → Whole d op rows u
+    WholeAt (kinds.Answered d op answer) u = Unit {0}
+    WholeAt it u = Unit {0}
 
-  whole_silent : OfAnswers WholeAt
-  whole_silent (kinds.Answered d op answer) u q = cc
-  whole_silent it u q = tt
+    whole_silent : OfAnswers WholeAt
+    whole_silent (kinds.Answered d op answer) u q = cc
+    whole_silent it u q = tt
 
-  -- what must be lost was told to be before the answer
-  told_before : (done os : List Observation) (d : ClientId) (op : ℕ) (answer : AppAnswer) (f : FileId) →
-      done ++ seen.Answered d op answer ∷ os ≡ sc.seen → AllAsked w e as_ → world.numbered (as_ d) op ≡ Some (asks.Sync f) →
-      (o : LogEntry) → IsOn d f o → LateAt past x' done o.of → ⊥
-  told_before done os d op answer f q all is o k l =
-      go (where_is order.first order.rest done (seen.Answered d op answer) os (q ∙ order.is))
-    where
-      -- by the loss that answers
-      after : d ≡ c → AfterLoss w c done op answer → ⊥
-      after same z =
-          clash
-          (subst (λ y. list_any (is_loss_of y o.of.file.server) done ≡ true) (sym same ∙ k.client)
-          (subst (λ (y : ServerId). list_any (is_loss_of c y) done ≡ true) (server ∙ ap (λ (y : FileId). y.server) k.its_file) z.told))
-          l.1
-        where
-          among : Has z.operation s.operations
-          among = subst (λ (y : WorldClient). Has z.operation y.node.state.operations) (some_is (sym z.at ∙ r.at)) z.among
-
-          words : z.operation.ask ≡ asks.Sync f
-          words =
-              some_is
-              (sym
-              (starts all (key z.operation) (has_left (map key s.operations) (coming r.input) (key z.operation) (has_map_in key s.operations z.operation among)))
-              ∙ (ap (world.numbered (as_ c)) z.is ∙ (ap (λ y. world.numbered (as_ y) op) (sym same) ∙ is)))
-
-          server : z.a.server ≡ f.server
-          server = ap (λ n. record { 0 = n }) (sym (eqb-true (cs.server_of z.operation.ask).0 z.a.server.0 z.own)) ∙ ap cs.server_of words
-
-      go : InFirst order.first done (seen.Answered d op answer) ⊎ InRest order.first order.rest done (seen.Answered d op answer) os → ⊥
-      go (inl (post, i)) =
-          let z = order_at w c [] done post (seen.Answered d op answer) (subst (InOrder w c []) i order.order) in after z.0 z.1
-      go (inr (pre, i, j)) =
-          let z = later_at c s r.input start pre os (seen.Answered d op answer) (subst (LaterLines c s r.input start) j order.later) in
-          clash
-          (ap (list_any (is_loss_of o.of.client o.of.file.server)) i
-          ∙ any_front (is_loss_of o.of.client o.of.file.server) order.first pre
-          (subst (λ y. list_any (is_loss_of y o.of.file.server) order.first ≡ true) (sym z.0 ∙ k.client) (order.losses o.of (sym k.client ∙ z.0) l.0)))
-          l.1
-
-  -- One such answer.
-  module _ (done os : List Observation) (es : List LogEntry) (u : Volume) (d : ClientId) (op : ℕ) (rows : List LostRow)
-      (q : done ++ seen.Answered d op (answers.Lost rows) ∷ os ≡ sc.seen) (st : State done (seen.Answered d op (answers.Lost rows) ∷ os) es u)
-      (all : AllAsked w e as_) (f : FileId) (is : world.numbered (as_ d) op ≡ Some (asks.Sync f))
-      (owing : owes (RowsAt past x' done d f.server) f.ino ≡ true) (rows_are : rows ≡ owed_of_file (RowsAt past x' done d f.server) f.ino) where
-    long : length u.log ≤ length es
-    long = let l = st.told.lines in let n = st.lined in omega (arith, l, n)
-
-    dropped_gone : (z : Fate) → is_dropped (fate_of z) ≡ true → log.counts z ≡ false
-    dropped_gone (fates.Gone cause) p = refl
-    dropped_gone fates.Pending p = cc p
-    dropped_gone fates.Hard p = cc p
-
-    -- no dropped entry is left
-    none_left : nat_le 1024 (length rows) ≡ false → (n : ℕ) (g : Entry) → slice_get u.log n ≡ Some g → is_left d f rows g ≡ false
-    none_left few n g j = go (is_left d f rows g) refl
+    -- what must be lost was told to be before the answer
+    told_before : (done os : List Observation) (d : ClientId) (op : ℕ) (answer : AppAnswer) (f : FileId) →
+        done ++ seen.Answered d op answer ∷ os ≡ sc.seen → AllAsked w e as_ → world.numbered (as_ d) op ≡ Some (asks.Sync f) →
+        (o : LogEntry) → IsOn d f o → LateAt past x' done o.of → ⊥
+    told_before done os d op answer f q all is o k l =
+        go (where_is order.first order.rest done (seen.Answered d op answer) os (q ∙ order.is))
       where
-        left : is_left d f rows g ≡ true → ⊥
-        left p = by (st.met_ n y.o g y.at j k.change (dropped_gone y.o.fate (sym (ap is_dropped y.same.fate) ∙ b.0)))
+        -- by the loss that answers
+        after : d ≡ c → AfterLoss w c done op answer → ⊥
+        after same z =
+            clash
+            (subst (λ y. list_any (is_loss_of y o.of.file.server) done ≡ true) (sym same ∙ k.client)
+            (subst (λ (y : ServerId). list_any (is_loss_of c y) done ≡ true) (server ∙ ap (λ (y : FileId). y.server) k.its_file) z.told))
+            l.1
           where
-            i : (is_by_on d f g ≡ true) × ((is_dropped g.fate && not (g.crashed || (g.told || is_told d f rows g))) ≡ true)
-            i = and_true (is_by_on d f g) _ p
+            among : Has z.operation s.operations
+            among = subst (λ (y : WorldClient). Has z.operation y.node.state.operations) (some_is (sym z.at ∙ r.at)) z.among
 
-            b : (is_dropped g.fate ≡ true) × (not (g.crashed || (g.told || is_told d f rows g)) ≡ true)
-            b = and_true (is_dropped g.fate) _ i.1
+            words : z.operation.ask ≡ asks.Sync f
+            words =
+                some_is
+                (sym
+                (starts all (key z.operation)
+                (has_left (map key s.operations) (coming r.input) (key z.operation) (has_map_in key s.operations z.operation among)))
+                ∙ (ap (world.numbered (as_ c)) z.is ∙ (ap (λ y. world.numbered (as_ y) op) (sym same) ∙ is)))
 
-            never : (g.crashed || (g.told || is_told d f rows g)) ≡ false
-            never = not_true (g.crashed || (g.told || is_told d f rows g)) b.1
+            server : z.a.server ≡ f.server
+            server = ap (λ n. record { 0 = n }) (sym (eqb-true (cs.server_of z.operation.ask).0 z.a.server.0 z.own)) ∙ ap cs.server_of words
 
-            y : Here past x' done es u st.told.first long st.met_ d f n g
-            y = here past x' done es u st.told.first long st.met_ d f n g j
+        go : InFirst order.first done (seen.Answered d op answer) ⊎ InRest order.first order.rest done (seen.Answered d op answer) os → ⊥
+        go (inl (post, i)) =
+            let z = order_at w c [] done post (seen.Answered d op answer) (subst (InOrder w c []) i order.order) in after z.0 z.1
+        go (inr (pre, i, j)) =
+            let z = later_at c s r.input start pre os (seen.Answered d op answer) (subst (LaterLines c s r.input start) j order.later) in
+            clash
+            (ap (list_any (is_loss_of o.of.client o.of.file.server)) i
+            ∙ any_front (is_loss_of o.of.client o.of.file.server) order.first pre
+            (subst (λ y. list_any (is_loss_of y o.of.file.server) order.first ≡ true) (sym z.0 ∙ k.client) (order.losses o.of (sym k.client ∙ z.0) l.0)))
+            l.1
 
-            k : IsOn d f y.o
-            k = is_on_it d f y.o g y.same i.0
+    -- One such answer.
+    module _ (done os : List Observation) (es : List LogEntry) (u : Volume) (d : ClientId) (op : ℕ) (rows : List LostRow)
+        (q : done ++ seen.Answered d op (answers.Lost rows) ∷ os ≡ sc.seen) (st : State done (seen.Answered d op (answers.Lost rows) ∷ os) es u)
+        (all : AllAsked w e as_) (f : FileId) (is : world.numbered (as_ d) op ≡ Some (asks.Sync f))
+        (owing : owes (RowsAt past x' done d f.server) f.ino ≡ true) (rows_are : rows ≡ owed_of_file (RowsAt past x' done d f.server) f.ino) where
+      long : length u.log ≤ length es
+      long = let l = st.told.lines in let n = st.lined in omega (arith, l, n)
 
-            told_row : list_any (is_lost_of y.o.of.file.ino y.o.of.page) (RowsAt past x' done y.o.of.client y.o.of.file.server) ≡ true → is_told d f rows g ≡ true
-            told_row h =
-                let z = owed_row past x' done es u st.told.first long st.met_ d f y.o k h in
-                let m =
-                row_is_told (RowsAt past x' done d f.server) f.ino y.o.of.page
-                (some_passes (is_lost_of f.ino y.o.of.page) (RowsAt past x' done d f.server) z.0 z.1
-                (subst (λ (n : ℕ). is_lost_of n y.o.of.page z.0 ≡ true) (sym (ap (λ (x : FileId). x.ino) k.its_file)) z.2))
-                (ap (λ xs. nat_le 1024 (length xs)) (sym rows_are) ∙ few) in
-                page_told d f y.o g y.same k (and_true (is_by d g) (is_on f g.what) i.0).0 b.0 rows m.0 (subst (Has m.0) (sym rows_are) m.1) m.2
+      dropped_gone : (z : Fate) → is_dropped (fate_of z) ≡ true → log.counts z ≡ false
+      dropped_gone (fates.Gone cause) p = refl
+      dropped_gone fates.Pending p = cc p
+      dropped_gone fates.Hard p = cc p
 
-            by : IsMet (RowsAt past x' done) (LateAt past x' done) y.o.of g → ⊥
-            by (inl z) = clash (or_left g.crashed (g.told || is_told d f rows g) z) never
-            by (inr (inl z)) = clash (or_right g.crashed (g.told || is_told d f rows g) (or_left g.told (is_told d f rows g) z)) never
-            by (inr (inr (inl z))) = clash (or_right g.crashed (g.told || is_told d f rows g) (or_right g.told (is_told d f rows g) (told_row z))) never
-            by (inr (inr (inr z))) = told_before done os d op (answers.Lost rows) f q all is y.o k z
+      -- no dropped entry is left
+      none_left : nat_le 1024 (length rows) ≡ false → (n : ℕ) (g : Entry) → slice_get u.log n ≡ Some g → is_left d f rows g ≡ false
+      none_left few n g j = go (is_left d f rows g) refl
+        where
+          left : is_left d f rows g ≡ true → ⊥
+          left p = by (st.met_ n y.o g y.at j k.change (dropped_gone y.o.fate (sym (ap is_dropped y.same.fate) ∙ b.0)))
+            where
+              i : (is_by_on d f g ≡ true) × ((is_dropped g.fate && not (g.crashed || (g.told || is_told d f rows g))) ≡ true)
+              i = and_true (is_by_on d f g) _ p
 
-        go : (b : Bool) → is_left d f rows g ≡ b → is_left d f rows g ≡ false
-        go true p = absurd (left p)
-        go false p = p
+              b : (is_dropped g.fate ≡ true) × (not (g.crashed || (g.told || is_told d f rows g)) ≡ true)
+              b = and_true (is_dropped g.fate) _ i.1
 
-    is_whole : IsWhole d f rows u
-    is_whole = go (nat_le 1024 (length rows)) refl
+              never : (g.crashed || (g.told || is_told d f rows g)) ≡ false
+              never = not_true (g.crashed || (g.told || is_told d f rows g)) b.1
+
+              y : Here past x' done es u st.told.first long st.met_ d f n g
+              y = here past x' done es u st.told.first long st.met_ d f n g j
+
+              k : IsOn d f y.o
+              k = is_on_it d f y.o g y.same i.0
+
+              told_row : list_any (is_lost_of y.o.of.file.ino y.o.of.page) (RowsAt past x' done y.o.of.client y.o.of.file.server) ≡ true →
+                  is_told d f rows g ≡ true
+              told_row h =
+                  let z = owed_row past x' done es u st.told.first long st.met_ d f y.o k h in
+                  let m =
+                  row_is_told (RowsAt past x' done d f.server) f.ino y.o.of.page
+                  (some_passes (is_lost_of f.ino y.o.of.page) (RowsAt past x' done d f.server) z.0 z.1
+                  (subst (λ (n : ℕ). is_lost_of n y.o.of.page z.0 ≡ true) (sym (ap (λ (x : FileId). x.ino) k.its_file)) z.2))
+                  (ap (λ xs. nat_le 1024 (length xs)) (sym rows_are) ∙ few) in
+                  page_told d f y.o g y.same k (and_true (is_by d g) (is_on f g.what) i.0).0 b.0 rows m.0 (subst (Has m.0) (sym rows_are) m.1) m.2
+
+              by : IsMet (RowsAt past x' done) (LateAt past x' done) y.o.of g → ⊥
+              by (inl z) = clash (or_left g.crashed (g.told || is_told d f rows g) z) never
+              by (inr (inl z)) = clash (or_right g.crashed (g.told || is_told d f rows g) (or_left g.told (is_told d f rows g) z)) never
+              by (inr (inr (inl z))) = clash (or_right g.crashed (g.told || is_told d f rows g) (or_right g.told (is_told d f rows g) (told_row z))) never
+              by (inr (inr (inr z))) = told_before done os d op (answers.Lost rows) f q all is y.o k z
+
+          go : (b : Bool) → is_left d f rows g ≡ b → is_left d f rows g ≡ false
+          go true p = absurd (left p)
+          go false p = p
+
+      is_whole : IsWhole d f rows u
+      is_whole = go (nat_le 1024 (length rows)) refl
+        where
+          go : (b : Bool) → nat_le 1024 (length rows) ≡ b → (b || not (list_any (is_left d f rows) u.log)) ≡ true
+          go true p = refl
+          go false p = ap not (none_at (is_left d f rows) u.log (none_left p))
+
+      answer_whole : Whole d op rows u
+      answer_whole =
+          record {
+            file = f;
+            is = is;
+            some =
+                and_both (nat_lt 0 (length rows)) (volume.are_rising rows)
+                (ap (λ xs. nat_lt 0 (length xs)) rows_are ∙ rows_some (RowsAt past x' done d f.server) f.ino owing)
+                (ap volume.are_rising rows_are ∙ rows_rise (RowsAt past x' done d f.server) f.ino);
+            left = is_whole;
+            waits_ = st.wait_;
+          }
+
+    whole_now : (done os : List Observation) (es : List LogEntry) (u : Volume) (d : ClientId) (op : ℕ) (rows : List LostRow) →
+        done ++ seen.Answered d op (answers.Lost rows) ∷ os ≡ sc.seen → IsLossTold past x' done (seen.Answered d op (answers.Lost rows)) →
+        State done (seen.Answered d op (answers.Lost rows) ∷ os) es u → AllAsked w e as_ → Whole d op rows u
+    whole_now done os es u d op rows q l st all = by_ask (ask_of past x' d op) refl l
       where
-        go : (b : Bool) → nat_le 1024 (length rows) ≡ b → (b || not (list_any (is_left d f rows) u.log)) ≡ true
-        go true p = refl
-        go false p = ap not (none_at (is_left d f rows) u.log (none_left p))
+        owe : (f : FileId) → ask_of past x' d op ≡ Some (asks.Sync f) → (b : Bool) → owes (RowsAt past x' done d f.server) f.ino ≡ b →
+            IsToldBy b (owed_of_file (RowsAt past x' done d f.server) f.ino) (answers.Lost rows) → Whole d op rows u
+        owe f i true j h = answer_whole done os es u d op rows q st all f i j h
+        owe f i false j h = absurd h
 
-    answer_whole : Whole d op rows u
-    answer_whole =
-        record {
-          file = f;
-          is = is;
-          some =
-              and_both (nat_lt 0 (length rows)) (volume.are_rising rows)
-              (ap (λ xs. nat_lt 0 (length xs)) rows_are ∙ rows_some (RowsAt past x' done d f.server) f.ino owing)
-              (ap volume.are_rising rows_are ∙ rows_rise (RowsAt past x' done d f.server) f.ino);
-          left = is_whole;
-          waits_ = st.wait_;
-        }
+        by_ask : (o : Option Ask) → ask_of past x' d op ≡ o → IsToldTo o (RowsAt past x' done d) (answers.Lost rows) → Whole d op rows u
+        by_ask (Some (asks.Sync f)) i h = owe f i (owes (RowsAt past x' done d f.server) f.ino) refl h
+        by_ask None i h = absurd h
+        by_ask (Some (asks.Write f p bytes)) i h = absurd h
+        by_ask (Some (asks.Patch f p at bytes)) i h = absurd h
+        by_ask (Some (asks.Read f p)) i h = absurd h
+        by_ask (Some (asks.Cut f p)) i h = absurd h
+        by_ask (Some (asks.Name n ask)) i h = absurd h
 
-  whole_now : (done os : List Observation) (es : List LogEntry) (u : Volume) (d : ClientId) (op : ℕ) (rows : List LostRow) →
-      done ++ seen.Answered d op (answers.Lost rows) ∷ os ≡ sc.seen → IsLossTold past x' done (seen.Answered d op (answers.Lost rows)) →
-      State done (seen.Answered d op (answers.Lost rows) ∷ os) es u → AllAsked w e as_ → Whole d op rows u
-  whole_now done os es u d op rows q l st all = by_ask (ask_of past x' d op) refl l
-    where
-      owe : (f : FileId) → ask_of past x' d op ≡ Some (asks.Sync f) → (b : Bool) → owes (RowsAt past x' done d f.server) f.ino ≡ b →
-          IsToldBy b (owed_of_file (RowsAt past x' done d f.server) f.ino) (answers.Lost rows) → Whole d op rows u
-      owe f i true j h = answer_whole done os es u d op rows q st all f i j h
-      owe f i false j h = absurd h
+    at_answer : (answer : AppAnswer) (done os : List Observation) (es : List LogEntry) (u : Volume) (d : ClientId) (op : ℕ) →
+        done ++ seen.Answered d op answer ∷ os ≡ sc.seen → IsLossTold past x' done (seen.Answered d op answer) →
+        State done (seen.Answered d op answer ∷ os) es u → WholeAt (kinds.Answered d op answer) u
+    at_answer (answers.Lost rows) done os es u d op q l st = λ all. whole_now done os es u d op rows q l st all
+    at_answer answer done os es u d op q l st = tt
 
-      by_ask : (o : Option Ask) → ask_of past x' d op ≡ o → IsToldTo o (RowsAt past x' done d) (answers.Lost rows) → Whole d op rows u
-      by_ask (Some (asks.Sync f)) i h = owe f i (owes (RowsAt past x' done d f.server) f.ino) refl h
-      by_ask None i h = absurd h
-      by_ask (Some (asks.Write f p bytes)) i h = absurd h
-      by_ask (Some (asks.Patch f p at bytes)) i h = absurd h
-      by_ask (Some (asks.Read f p)) i h = absurd h
-      by_ask (Some (asks.Cut f p)) i h = absurd h
-      by_ask (Some (asks.Name n ask)) i h = absurd h
+    one_line : (done : List Observation) (o : Observation) (os : List Observation) (es : List LogEntry) (u : Volume) → done ++ o ∷ os ≡ sc.seen →
+        lines.log_told sc.world w.log done ≡ es → IsLossTold past x' done o → State done (o ∷ os) es u → AtEachStep WholeAt (block w o os) u
+    one_line done o os es u q g l st =
+        block_by WholeAt whole_silent w o os u
+        (λ d op answer i. at_answer answer done os es u d op (subst (λ y. done ++ y ∷ os ≡ sc.seen) i q) (subst (IsLossTold past x' done) i l)
+        (subst (λ y. State done (y ∷ os) es u) i st))
 
-  at_answer : (answer : AppAnswer) (done os : List Observation) (es : List LogEntry) (u : Volume) (d : ClientId) (op : ℕ) →
-      done ++ seen.Answered d op answer ∷ os ≡ sc.seen → IsLossTold past x' done (seen.Answered d op answer) →
-      State done (seen.Answered d op answer ∷ os) es u → WholeAt (kinds.Answered d op answer) u
-  at_answer (answers.Lost rows) done os es u d op q l st = λ all. whole_now done os es u d op rows q l st all
-  at_answer answer done os es u d op q l st = tt
+    -- of the ask that it answers
+    module _ (all : AllAsked w e as_) (u : Volume) (d : ClientId) (op : ℕ) (rows : List LostRow) (b : Pending) (h : Whole d op rows u)
+        (q : find (is_ask d op) u.pending ≡ Some b) (asked : world.numbered (as_ d) op ≡ Some b.ask) where
+      found : (is_ask d op b ≡ true) × Has b u.pending
+      found = found_at (is_ask d op) u.pending b q
 
-  one_line : (done : List Observation) (o : Observation) (os : List Observation) (es : List LogEntry) (u : Volume) → done ++ o ∷ os ≡ sc.seen →
-      lines.log_told sc.world w.log done ≡ es → IsLossTold past x' done o → State done (o ∷ os) es u → AtEachStep WholeAt (block w o os) u
-  one_line done o os es u q g l st =
-      block_by WholeAt whole_silent w o os u
-      (λ d op answer i. at_answer answer done os es u d op (subst (λ y. done ++ y ∷ os ≡ sc.seen) i q) (subst (IsLossTold past x' done) i l)
-      (subst (λ y. State done (y ∷ os) es u) i st))
+      client : b.client ≡ d
+      client = client_is b.client d (and_true (b.client.0 == d.0) (b.op == op) found.0).0
 
-  -- of the ask that it answers
-  module _ (all : AllAsked w e as_) (u : Volume) (d : ClientId) (op : ℕ) (rows : List LostRow) (b : Pending) (h : Whole d op rows u)
-      (q : find (is_ask d op) u.pending ≡ Some b) (asked : world.numbered (as_ d) op ≡ Some b.ask) where
-    found : (is_ask d op b ≡ true) × Has b u.pending
-    found = found_at (is_ask d op) u.pending b q
+      words : b.ask ≡ asks.Sync h.file
+      words = some_is (sym asked ∙ h.is)
 
-    client : b.client ≡ d
-    client = client_is b.client d (and_true (b.client.0 == d.0) (b.op == op) found.0).0
+      unresulted : (o : Bool) → is_some b.result ≡ o → not o ≡ true
+      unresulted false i = refl
+      unresulted true i =
+          absurd (clash (each_passes waits u.pending h.waits_ b found.1) (ap (λ ask. not (volume.is_sync ask) || not (is_some b.result)) words ∙ ap not i))
 
-    words : b.ask ≡ asks.Sync h.file
-    words = some_is (sym asked ∙ h.is)
+      told_whole : is_told_whole u b rows ≡ true
+      told_whole =
+          and_both (volume.is_sync b.ask && not (is_some b.result))
+          ((nat_lt 0 (length rows) && volume.are_rising rows) &&
+          (nat_le 1024 (length rows) || not (list_any (is_left b.client (volume.file_of b.ask) rows) u.log)))
+          (and_both (volume.is_sync b.ask) (not (is_some b.result)) (ap volume.is_sync words) (unresulted (is_some b.result) refl))
+          (and_both (nat_lt 0 (length rows) && volume.are_rising rows)
+          (nat_le 1024 (length rows) || not (list_any (is_left b.client (volume.file_of b.ask) rows) u.log)) h.some
+          (subst (λ ask. (nat_le 1024 (length rows) || not (list_any (is_left b.client (volume.file_of ask) rows) u.log)) ≡ true) (sym words)
+          (subst (λ y. IsWhole y h.file rows u) (sym client) h.left)))
 
-    unresulted : (o : Bool) → is_some b.result ≡ o → not o ≡ true
-    unresulted false i = refl
-    unresulted true i =
-        absurd (clash (each_passes waits u.pending h.waits_ b found.1) (ap (λ ask. not (volume.is_sync ask) || not (is_some b.result)) words ∙ ap not i))
+    takes_one : AllAsked w e as_ → IsFineBy LossIsToldWhole WholeAt Always as_
+    takes_one all u g b told fact q asked fits = by g.answer fact
+      where
+        by : (answer : AppAnswer) → WholeAt (kinds.Answered g.client g.op answer) u → LossIsToldWhole (kinds.Answered g.client g.op answer) u
+        by (answers.Lost rows) h =
+            λ z i. subst (λ y. is_told_whole u y rows ≡ true) (some_is (sym q ∙ i)) (told_whole all u g.client g.op rows b (h all) q asked)
+        by answer h = tt
 
-    told_whole : is_told_whole u b rows ≡ true
-    told_whole =
-        and_both (volume.is_sync b.ask && not (is_some b.result))
-        ((nat_lt 0 (length rows) && volume.are_rising rows) && (nat_le 1024 (length rows) || not (list_any (is_left b.client (volume.file_of b.ask) rows) u.log)))
-        (and_both (volume.is_sync b.ask) (not (is_some b.result)) (ap volume.is_sync words) (unresulted (is_some b.result) refl))
-        (and_both (nat_lt 0 (length rows) && volume.are_rising rows)
-        (nat_le 1024 (length rows) || not (list_any (is_left b.client (volume.file_of b.ask) rows) u.log)) h.some
-        (subst (λ ask. (nat_le 1024 (length rows) || not (list_any (is_left b.client (volume.file_of ask) rows) u.log)) ≡ true) (sym words)
-        (subst (λ y. IsWhole y h.file rows u) (sym client) h.left)))
-
-  takes_one : AllAsked w e as_ → IsFineBy LossIsToldWhole WholeAt Always as_
-  takes_one all u g b told fact q asked fits = by g.answer fact
-    where
-      by : (answer : AppAnswer) → WholeAt (kinds.Answered g.client g.op answer) u → LossIsToldWhole (kinds.Answered g.client g.op answer) u
-      by (answers.Lost rows) h =
-          λ z i. subst (λ y. is_told_whole u y rows ≡ true) (some_is (sym q ∙ i)) (told_whole all u g.client g.op rows b (h all) q asked)
-      by answer h = tt
-
-  pub event_whole : HasAsksOf w v → ((d : ClientId) → AllOpenFor w d sc.seen (told_all d (of_event w e) (at_site (site_of w d)))) → AreLossesTold past x' [] sc.seen →
-      AtEachStep LossIsToldWhole (steps_of it v x') v
-  event_whole agree opened l =
-      event_fine LossIsToldWhole loss_silent WholeAt Always past x' takes_one it v (none_served it.behind v w e c r.site r.input r.takes) a.lines right agree opened
-      (each_line past t e sc happened it held later v a right marked met wait calm whole WholeAt one_line
-      (none_served it.behind v w e c r.site r.input r.takes) l
-      (λ d. subst (λ h. AllOpenFor w d sc.seen (told_all d (of_event w e) h)) (sym (agree d)) (opened d)))
-      (always_fit (given_in_lines sc.seen))
+    pub event_whole : HasAsksOf w v → ((d : ClientId) → AllOpenFor w d sc.seen (told_all d (of_event w e) (at_site (site_of w d)))) →
+        AreLossesTold past x' [] sc.seen →
+        AtEachStep LossIsToldWhole (steps_of it v x') v
+    event_whole agree opened l =
+        event_fine LossIsToldWhole loss_silent WholeAt Always past x' takes_one it v (none_served it.behind v w e c r.site r.input r.takes) a.lines right agree
+        opened
+        (each_line past t e sc happened it held later v a right marked met wait calm whole WholeAt one_line
+        (none_served it.behind v w e c r.site r.input r.takes) l
+        (λ d. subst (λ h. AllOpenFor w d sc.seen (told_all d (of_event w e) h)) (sym (agree d)) (opened d)))
+        (always_fit (given_in_lines sc.seen))
 
 -- In every run.
 WholeToo : List Step → Step → Witness → Type 0

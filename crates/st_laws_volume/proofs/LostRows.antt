@@ -151,7 +151,8 @@ told_length : (xs : List LostPage) → length (map as_told xs) ≡ length xs
 told_length [] = refl
 told_length (x ∷ xs) = ap suc (told_length xs)
 
-pub row_is_told : (rows : List LostPage) (ino : ℕ) (p : PageNo) → list_any (is_lost_of ino p) rows ≡ true → nat_le 1024 (length (owed_of_file rows ino)) ≡ false →
+pub row_is_told : (rows : List LostPage) (ino : ℕ) (p : PageNo) → list_any (is_lost_of ino p) rows ≡ true →
+    nat_le 1024 (length (owed_of_file rows ino)) ≡ false →
     (r : LostRow) × Has r (owed_of_file rows ino) × (r.page ≡ p)
 unfolding owed_of_file still_owed
 row_is_told rows ino p q few = go (told_or_owed rows ino p ino q)
@@ -163,7 +164,8 @@ row_is_told rows ino p q few = go (told_or_owed rows ino p ino q)
 
     other : (z : LostPage) → Has z (filter (λ (r : LostPage). not (is_of_file ino r)) rows ++ []) → is_lost_of ino p z ≡ true → ⊥
     other z i b =
-        let y = has_filter (λ (r : LostPage). not (is_of_file ino r)) rows z (left (has_append (filter (λ (r : LostPage). not (is_of_file ino r)) rows) [] z i)) in
+        let y = has_filter (λ (r : LostPage). not (is_of_file ino r)) rows z (left (has_append (filter (λ (r : LostPage). not (is_of_file ino r)) rows) [] z i))
+        in
         clash (eq-eqb z.ino ino (row_of ino p z b).ino_is) (not_true (is_of_file ino z) y.1)
       where
         left : Has z (filter (λ (r : LostPage). not (is_of_file ino r)) rows) ⊎ Has z [] → Has z (filter (λ (r : LostPage). not (is_of_file ino r)) rows)

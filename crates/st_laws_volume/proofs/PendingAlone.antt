@@ -233,7 +233,8 @@ module _ (k : net.Config) (count : ℕ) (past : List Step) (w : World) (h : Froz
           y = h.all.servers o.file.server.0 node its_at
 
           x : StoodLife k w o.file.server.0 node y l o
-          x = owner_at (OfCrashed (StandsStill k count w h.all) w) w.log e h.frozen_lives logged open_ l q (pending_crashed w h.all.fates.lives o l q before) node
+          x = owner_at (OfCrashed (StandsStill k count w h.all) w) w.log e h.frozen_lives logged open_ l q (pending_crashed w h.all.fates.lives o l q before)
+              node
               its_at
 
           clock : (client_in w o.client.0 o.file.server.0 (y.ended o.client.0)).clock < x.half.date + k.lease

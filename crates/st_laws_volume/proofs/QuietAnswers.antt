@@ -133,7 +133,8 @@ where_is (y ∷ first) rest (z ∷ done) x more e = go (where_is first rest done
     go (inr (pre, p, q)) = inr (pre, ap (λ k. k ∷ done) (sym (head e)) ∙ ap (λ xs. y ∷ xs) p, q)
 
 -- what holds of such a line
-pub order_at : (w : World) (c : ClientId) (pre done post : List Observation) (x : Observation) → InOrder w c pre (done ++ x ∷ post) → OneLine w c (pre ++ done) x
+pub order_at : (w : World) (c : ClientId) (pre done post : List Observation) (x : Observation) → InOrder w c pre (done ++ x ∷ post) →
+    OneLine w c (pre ++ done) x
 order_at w c pre [] post x h = subst (λ xs. OneLine w c xs x) (sym (append-nil pre)) h.0
 order_at w c pre (y ∷ done) post x h =
     subst (λ xs. OneLine w c xs x) (append_assoc pre (y ∷ []) done) (order_at w c (pre ++ y ∷ []) done post x h.1)
@@ -254,7 +255,8 @@ module _ (k : net.Config) (count : ℕ) (past : List Step) (t : Traced) (e : Eve
       words : z.operation.ask ≡ asks.Sync f
       words =
           some_is
-          (sym (starts all (key z.operation) (has_left (map key s.operations) (coming r.input) (key z.operation) (has_map_in key s.operations z.operation among)))
+          (sym (starts all (key z.operation)
+          (has_left (map key s.operations) (coming r.input) (key z.operation) (has_map_in key s.operations z.operation among)))
           ∙ (ap (world.numbered (as_ c)) z.is ∙ is))
 
       server : z.a.server ≡ f.server
@@ -273,7 +275,8 @@ module _ (k : net.Config) (count : ℕ) (past : List Step) (t : Traced) (e : Eve
           (subst (λ (y : ServerId). list_any (is_loss_of c y) done ≡ true) (server ∙ ap (λ (y : FileId). y.server) k.its_file) z.told))
           l.1
 
-      pending : (n : ℕ) (o : LogEntry) (g : Entry) → slice_get es n ≡ Some o → slice_get u.log n ≡ Some g → IsOn c f o → o.fate ≡ fates.Pending → g.crashed ≡ true
+      pending : (n : ℕ) (o : LogEntry) (g : Entry) → slice_get es n ≡ Some o → slice_get u.log n ≡ Some g → IsOn c f o → o.fate ≡ fates.Pending →
+          g.crashed ≡ true
       pending n o g i j k p = go (is_crashed_life w.ended o.of) refl
         where
           old : slice_get w.log n ≡ Some o
@@ -315,7 +318,8 @@ module _ (k : net.Config) (count : ℕ) (past : List Step) (t : Traced) (e : Eve
           let h : InOrder w c [] (done ++ seen.Answered d op answers.Quiesced ∷ post) = subst (InOrder w c []) i order.order in
           let z = order_at w c [] done post (seen.Answered d op answers.Quiesced) h in
           let same : es ≡ w.log = sym g ∙ level sc.world w c w.log [] done (seen.Answered d op answers.Quiesced ∷ post) h in
-          let own : State done (seen.Answered c op answers.Quiesced ∷ os) es u = subst (λ b. State done (seen.Answered b op answers.Quiesced ∷ os) es u) z.0 st in
+          let own : State done (seen.Answered c op answers.Quiesced ∷ os) es u =
+          subst (λ b. State done (seen.Answered b op answers.Quiesced ∷ os) es u) z.0 st in
           let told : IsToldTo (ask_of past x' c op) (RowsAt past x' done c) answers.Quiesced =
           subst (λ b. IsToldTo (ask_of past x' b op) (RowsAt past x' done b) answers.Quiesced) z.0 l in
           record {
@@ -406,9 +410,11 @@ module _ (k : net.Config) (count : ℕ) (past : List Step) (t : Traced) (e : Eve
 
     is_right : (what : Ask) → b.ask ≡ what → (not (volume.is_sync b.ask) || is_hard u b) ≡ true
     is_right (asks.Sync f) i =
-        subst (λ ask. (not (volume.is_sync ask) || (volume.is_sync ask && list_all (λ (z : Entry). is_settled z || not (is_by_on b.client (volume.file_of ask) z)) u.log))
+        subst (λ ask.
+        (not (volume.is_sync ask) || (volume.is_sync ask && list_all (λ (z : Entry). is_settled z || not (is_by_on b.client (volume.file_of ask) z)) u.log))
         ≡ true) (sym i)
-        (subst (λ (y : ClientId). list_all (λ (z : Entry). is_settled z || not (is_by_on y f z)) u.log ≡ true) (sym (client_is b.client d keys.0 ∙ quiet.client))
+        (subst (λ (y : ClientId). list_all (λ (z : Entry). is_settled z || not (is_by_on y f z)) u.log ≡ true)
+        (sym (client_is b.client d keys.0 ∙ quiet.client))
         (quiet.settled f (subst (λ (y : ClientId). world.numbered (as_ y) op ≡ Some (asks.Sync f)) quiet.client (asked ∙ ap (λ y. Some y) i))))
     is_right (asks.Write f p bytes) i = ap (λ ask. not (volume.is_sync ask) || is_hard u b) i
     is_right (asks.Patch f p at bytes) i = ap (λ ask. not (volume.is_sync ask) || is_hard u b) i
@@ -436,13 +442,15 @@ module _ (k : net.Config) (count : ℕ) (past : List Step) (t : Traced) (e : Eve
       by answers.Quiesced h i = quiet_taken all u g.client g.op b told h q asked
       by answer h i = cc i
 
-  pub event_quiet : HasAsksOf w v → ((d : ClientId) → AllOpenFor w d sc.seen (told_all d (of_event w e) (at_site (site_of w d)))) → AreLossesTold past x' [] sc.seen →
+  pub event_quiet : HasAsksOf w v → ((d : ClientId) → AllOpenFor w d sc.seen (told_all d (of_event w e) (at_site (site_of w d)))) →
+      AreLossesTold past x' [] sc.seen →
       all_followed sc.seen ≡ true → AllFine (WasServed past w) None v → AreTaken is_quiesced (steps_of it v x') v
   event_quiet agree opened l followed fine =
       taken_at is_quiesced (steps_of it v x') v
       (event_fine (Takes is_quiesced) (takes_silent is_quiesced only_quiesced) Fact Always past x' takes_one it v
       (none_served it.behind v w e c r.site r.input r.takes) a.lines right agree opened
-      (on_more (λ u. AtEachStep (FineAt (WasServed past w)) (of_lines w sc.seen) u × AtEachStep QuietAt (of_lines w sc.seen) u) (AtEachStep Fact (of_lines w sc.seen))
+      (on_more (λ u. AtEachStep (FineAt (WasServed past w)) (of_lines w sc.seen) u × AtEachStep QuietAt (of_lines w sc.seen) u)
+      (AtEachStep Fact (of_lines w sc.seen))
       (λ u h. at_two (FineAt (WasServed past w)) QuietAt (of_lines w sc.seen) u h.0 h.1) (run (of_event w e) v)
       (on_both (AtEachStep (FineAt (WasServed past w)) (of_lines w sc.seen)) (AtEachStep QuietAt (of_lines w sc.seen)) (run (of_event w e) v)
       (on_more (AllFine (WasServed past w) None) (AtEachStep (FineAt (WasServed past w)) (of_lines w sc.seen))

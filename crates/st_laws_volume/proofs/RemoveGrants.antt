@@ -307,7 +307,8 @@ record Passing (start os : List Operation) (t : Turn) : Type 0 where
   from : AllFrom start (t.operations ++ os)
   sorted : Sorted start → Sorted (t.operations ++ os)
 
-kept_on : (start : List Operation) (o : Operation) (os : List Operation) (t u : Turn) → u.operations ≡ t.operations ++ o ∷ [] → Passing start (o ∷ os) t → Passing start os u
+kept_on : (start : List Operation) (o : Operation) (os : List Operation) (t u : Turn) → u.operations ≡ t.operations ++ o ∷ [] → Passing start (o ∷ os) t →
+    Passing start os u
 kept_on start o os t u e h =
     record {
       from = subst (AllFrom start) (sym q) h.from;
@@ -317,7 +318,8 @@ kept_on start o os t u e h =
     q : u.operations ++ os ≡ t.operations ++ o ∷ os
     q = ap (λ ps. ps ++ os) e ∙ append_assoc t.operations (o ∷ []) os
 
-gone_on : (start : List Operation) (o : Operation) (os : List Operation) (t u : Turn) → u.operations ≡ t.operations → Passing start (o ∷ os) t → Passing start os u
+gone_on : (start : List Operation) (o : Operation) (os : List Operation) (t u : Turn) → u.operations ≡ t.operations → Passing start (o ∷ os) t →
+    Passing start os u
 gone_on start o os t u e h =
     record {
       from = λ p i. h.from p (has_middle o p t.operations os (subst (λ ps. Has p (ps ++ os)) e i));
@@ -335,7 +337,8 @@ begins_with : (start : List Operation) (t : Turn) → t.operations ≡ [] → Pa
 begins_with start t e =
     record { from = subst (λ ps. AllFrom start (ps ++ start)) (sym e) (all_same start); sorted = λ z. subst (λ ps. Sorted (ps ++ start)) (sym e) z }
 
-ended : (start : List Operation) (s : ClientSession) (o : Operation) (os : List Operation) (t u : Turn) → Ended s o t u → Passing start (o ∷ os) t → Passing start os u
+ended : (start : List Operation) (s : ClientSession) (o : Operation) (os : List Operation) (t u : Turn) → Ended s o t u → Passing start (o ∷ os) t →
+    Passing start os u
 ended start s o os t _ (losing.IsElsewhere e) h = kept_on start o os t _ refl h
 ended start s o os t _ (losing.IsUncertain e f) h = gone_on start o os t _ refl h
 ended start s o os t _ (losing.IsToldLost f e q a l) h = gone_on start o os t _ refl h
@@ -458,7 +461,8 @@ under_cut x (asks.Patch f q at bytes) ino g p = tt
 under_cut x (asks.Read f q) ino g p = tt
 under_cut x (asks.Sync f) ino g p = tt
 
-wants_under : (t : Turn) (s x : ClientSession) (now : Stamp) (ask : Ask) (w : cp.Wanted) → x.locks ≡ s.locks → Wants t s now ask w → w.own ≡ true → IsUnder x ask w.body
+wants_under : (t : Turn) (s x : ClientSession) (now : Stamp) (ask : Ask) (w : cp.Wanted) → x.locks ≡ s.locks → Wants t s now ask w → w.own ≡ true →
+    IsUnder x ask w.body
 wants_under t s x now ask _ same (asking.ForLock ino e q c d) o = cc o
 wants_under t s x now ask _ same (asking.ForPlace f p l e q c d) o = cc o
 wants_under t s x now ask _ same (asking.ToWrite f p bytes l e q c d) o = cc o
@@ -507,7 +511,8 @@ asked_all G now tick t _ stays sorted (asking.AsksFor s xs o ys w f e first) = b
     mine = (and_true (cs.is_of t.here.server o) _ first.may).0
 
     here : Bool → Association
-    here b = (asking.asked (cs.with_store (cp.cut_store w.cut t.here.store) (with_operations (xs ++ cp.sent_if b o ∷ ys) t)) s now w.body (cp.file_cut w.cut)).here
+    here b = (asking.asked (cs.with_store (cp.cut_store w.cut t.here.store) (with_operations (xs ++ cp.sent_if b o ∷ ys) t)) s now w.body
+        (cp.file_cut w.cut)).here
 
     q : Operation
     q = cs.at_stage stages.Sent o
@@ -736,7 +741,8 @@ unfolding at_these
 everywhere G n start rule one [] t h = h
 everywhere G n start rule one (a ∷ al) t h = everywhere G n start rule one al (leave t (rule (enter t a))) (one (enter t a) h)
 
-at_all : (G : Type 0) (n : ℕ) (start : List Operation) (rule : Turn → Turn) → ((t : Turn) → Ok G n start t.operations → Ok G n start (rule t).operations) → (t : ClientTurn) →
+at_all : (G : Type 0) (n : ℕ) (start : List Operation) (rule : Turn → Turn) → ((t : Turn) → Ok G n start t.operations → Ok G n start (rule t).operations) →
+    (t : ClientTurn) →
     Ok G n start t.state.operations → Ok G n start (at_each rule t).state.operations
 unfolding at_each
 at_all G n start rule one t h = everywhere G n start rule one t.state.associations (with_associations [] t) h
@@ -842,7 +848,8 @@ input_taken : (G : Type 0) (n : ℕ) (start : List Operation) (t : ClientTurn) (
 unfolding cl.take_input cl.app cl.app_known cl.done cr.receive cr.receive_here
 input_taken G n start t now inputs.Tick is h = h
 input_taken G n start t now (inputs.App op ask) is h =
-    cond_either (λ (u : ClientTurn). Ok G n start u.state.operations) (cl.is_full t.state) (cl.answered_at_once t op answers.OpsFull) (cl.app_known t op ask) (λ e. h)
+    cond_either (λ (u : ClientTurn). Ok G n start u.state.operations) (cl.is_full t.state) (cl.answered_at_once t op answers.OpsFull) (cl.app_known t op ask)
+    (λ e. h)
     (λ e. cond_either (λ (u : ClientTurn). Ok G n start u.state.operations) (cl.is_configured t.state (server_of ask))
     (at_each (only_at (server_of ask) (cl.take_ask op ask)) t) (cl.answered_at_once t op answers.NoFile)
     (λ c. at_all G n start (only_at (server_of ask) (cl.take_ask op ask)) (λ u k. took G n start op ask (λ y. is y op ask refl) u k) t h) (λ c. h))
@@ -885,7 +892,8 @@ step_ordered n s now input k h p i q j y l = go (z.each p i)
     z = step_waits n s now input
 
     -- what waited before
-    was : (f : From s.operations p) (o : Operation) → Has o s.operations → o.op ≡ j.op → o.ask ≡ j.ask → (cs.is_sent o ≡ true → cs.is_sent j ≡ true) → Fine j p.ask
+    was : (f : From s.operations p) (o : Operation) → Has o s.operations → o.op ≡ j.op → o.ask ≡ j.ask → (cs.is_sent o ≡ true → cs.is_sent j ≡ true) →
+        Fine j p.ask
     was f o x e a stays =
         let g = f.op in subst (Fine j) f.ask (fine_on o j f.o.ask a stays (h f.o f.there (sym f.sent ∙ q) o x (omega (arith, l, e, g))))
 

@@ -77,7 +77,8 @@ some_map f (Some x) q = refl
 
 cut_there : (v : Volume) (c : ClientId) (f : FileId) (p : PageNo) → is_free v c f ≡ true → is_some (cuts v c f p) ≡ true
 cut_there v c f p free =
-    ap (λ b. is_some (if b then Some (record v { claims = volume.freed v (asks.Cut f p); log = v.log ++ entry c (asks.Cut f p) fates.Hard ∷ [] }) else None)) free
+    ap (λ b. is_some (if b then Some (record v { claims = volume.freed v (asks.Cut f p); log = v.log ++ entry c (asks.Cut f p) fates.Hard ∷ [] }) else None))
+    free
 
 cut_done : (v : Volume) (c : ClientId) (f : FileId) (p : PageNo) → is_free v c f ≡ true → is_some (effect v c (asks.Cut f p)) ≡ true
 cut_done v c f p free = some_map (λ (w : Volume). (w, answers.Cut)) (cuts v c f p) (cut_there v c f p free)

@@ -209,11 +209,13 @@ module _ (k : net.Config) (count : ℕ) (past : List Step) (t : Traced) (e : Eve
       let first = r.first in
       let number = same_.number_ in
       let body : r.message.body ≡ m.body =
-      one_body k count past2 (traced_after e t sc) n.changes_.names_.all c a.server (n.keys.places c op a) a.life_ a.epoch_ a.number_ (omega (arith, first, number))
+      one_body k count past2 (traced_after e t sc) n.changes_.names_.all c a.server (n.keys.places c op a) a.life_ a.epoch_ a.number_
+      (omega (arith, first, number))
       r.message m (grown r.message r.among) i
       (keyed_same c b.server a.server b.life_ b.epoch_ b.number_ a.life_ a.epoch_ a.number_ r.message same_ r.keyed) key in
       subst (NamesGrant ask) body
-      (subst (λ y. NamesGrant y r.message.body) (some_is (sym (asked_more past x c op r.ask r.asked) ∙ asked)) (before c op b r.message r.among r.keyed r.ask r.asked))
+      (subst (λ y. NamesGrant y r.message.body) (some_is (sym (asked_more past x c op r.ask r.asked) ∙ asked))
+      (before c op b r.message r.among r.keyed r.ask r.asked))
 
   -- what waits now
   module _ (c : ClientId) (op : ℕ) (a : Asked past2 sc.world c op) (z : WaitsUnder sc.world c a.server a.life_ a.epoch_ a.number_ op) (m : Message)

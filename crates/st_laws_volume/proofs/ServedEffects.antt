@@ -80,7 +80,8 @@ module _ (t : Witness) (past : List Step) (w : World) (v : Volume) (facts : Fact
     taken_op =
         ap is_some (if_true (v.lines == length v.log) (acts v (kinds.TakesEffect c b.op)) None (eq-eqb v.lines (length v.log) facts.log_.lines))
         ∙ (ap (λ o. is_some (option_map notice (option_and_then (takes v) o))) there
-        ∙ (ap (λ (r : Option AppAnswer). is_some (option_map notice (if is_some r || list_any (is_before a) v.pending then None else option_map (done a) (effect v a.client a.ask)))) fresh
+        ∙ (ap (λ (r : Option AppAnswer). is_some
+        (option_map notice (if is_some r || list_any (is_before a) v.pending then None else option_map (done a) (effect v a.client a.ask)))) fresh
         ∙ (ap (λ z. is_some (option_map notice (if z then None else option_map (done a) (effect v a.client a.ask)))) order
         ∙ some_map notice (option_map (done a) (effect v a.client a.ask)) (some_map (done a) (effect v a.client a.ask) can_be))))
 

@@ -25,7 +25,8 @@ use Rattle.st_snapshot.specs.declared.fault.SnapshotFault.TheVariants as faults
 use Rattle.st_snapshot.proofs.Rows.{none_long, rows_once, rows_stop}
 use Rattle.st_snapshot.proofs.Spelled.{counters_long, counters_once, entry_once, page_once}
 
-pub counters_same : (c d : Counters) → c.epoch ≡ d.epoch → c.births ≡ d.births → c.next ≡ d.next → c.limit ≡ d.limit → c.entries ≡ d.entries → c.pages ≡ d.pages → c ≡ d
+pub counters_same : (c d : Counters) → c.epoch ≡ d.epoch → c.births ≡ d.births → c.next ≡ d.next → c.limit ≡ d.limit → c.entries ≡ d.entries →
+    c.pages ≡ d.pages → c ≡ d
 counters_same c d a b e f g h = rw (a, b, e, f, g, h) refl
 
 snapshot_is : (t : Stable) → snapshot t ≡ counters (counters_of t) ++ (rows entry t.names.entries ++ rows page t.extents.rows)
@@ -48,8 +49,10 @@ module _ (s : Shape) (bytes : List ℕ) (c : Counters) (es : List NameEntry) (xs
 
 -- a snapshot and other parts that are in front of the same bytes
 module _ (t : Stable) (fits : Fits t) (bytes : List ℕ) (is : bytes ≡ snapshot t) where
-  whole : (c : Counters) (rest : List ℕ) → CountersFit c → bytes ≡ counters c ++ rest → (c ≡ counters_of t) × (rest ≡ rows entry t.names.entries ++ rows page t.extents.rows)
-  whole c rest f e = counters_once c (counters_of t) rest (rows entry t.names.entries ++ rows page t.extents.rows) f fits.counters (sym e ∙ (is ∙ snapshot_is t))
+  whole : (c : Counters) (rest : List ℕ) → CountersFit c → bytes ≡ counters c ++ rest →
+      (c ≡ counters_of t) × (rest ≡ rows entry t.names.entries ++ rows page t.extents.rows)
+  whole c rest f e = counters_once c (counters_of t) rest (rows entry t.names.entries ++ rows page t.extents.rows) f fits.counters
+      (sym e ∙ (is ∙ snapshot_is t))
 
   none_short : length bytes < 32 → ⊥
   none_short l = let n = counters_long (counters_of t) bytes _ (is ∙ snapshot_is t) in omega (arith, l, n)
@@ -72,7 +75,8 @@ module _ (t : Stable) (fits : Fits t) (bytes : List ℕ) (is : bytes ≡ snapsho
   no_pages at h =
       let known = after_entries h.c h.es h.rest h.fit h.entries h.entries_fit h.parts in
       rows_stop page PageFits page_once h.stops.done t.extents.rows h.stops.rest [] h.stops.each fits.pages
-      (omega (arith, h.stops.fewer, ap (λ (c : Counters). c.pages) known.0)) (sym h.stops.parts ∙ (known.1 ∙ sym (append-nil (rows page t.extents.rows)))) h.stops.none
+      (omega (arith, h.stops.fewer, ap (λ (c : Counters). c.pages) known.0)) (sym h.stops.parts ∙ (known.1 ∙ sym (append-nil (rows page t.extents.rows))))
+      h.stops.none
 
   not_longer : (at : ℕ) → GoesOn bytes at → ⊥
   not_longer at h =
@@ -94,7 +98,8 @@ snapshot_once s t u f g v w e =
     let pages = rows_once page PageFits page_once t.extents.rows u.extents.rows [] [] f.pages g.pages
     (ap (λ (d : Counters). d.pages) known.0) (append-nil (rows page t.extents.rows) ∙ (entries.1 ∙ sym (append-nil (rows page u.extents.rows)))) in
     stable_same t u (ap (λ (d : Counters). d.epoch) known.0) entries.0 (ap (λ (d : Counters). d.next) known.0) (ap (λ (d : Counters). d.limit) known.0)
-    (v ∙ (ap (λ (xs : List Extent). with_shape s xs t.extents.births) pages.0 ∙ (ap (λ (n : ℕ). with_shape s u.extents.rows n) (ap (λ (d : Counters). d.births) known.0) ∙ sym w)))
+    (v ∙ (ap (λ (xs : List Extent). with_shape s xs t.extents.births) pages.0 ∙
+    (ap (λ (n : ℕ). with_shape s u.extents.rows n) (ap (λ (d : Counters). d.births) known.0) ∙ sym w)))
 
 no_names : (r : NamesRefusal) (n : Names) → IsInOrder n → AreNoNames r n → ⊥
 no_names names_refusals.NotRising n o h = h o.rising
@@ -112,7 +117,8 @@ no_extents extents_refusals.BlockTwice x o h = h o.owned.blocks
 no_extents extents_refusals.Memory x o h = h
 
 -- A snapshot that a server may have is refused only if memory ran out.
-pub refused_for_memory : (s : Shape) (bytes : List ℕ) (f : SnapshotFault) (t : Stable) → IsRefused s bytes f → Fits t → CanBe t → HasShape s t → bytes ≡ snapshot t →
+pub refused_for_memory : (s : Shape) (bytes : List ℕ) (f : SnapshotFault) (t : Stable) → IsRefused s bytes f → Fits t → CanBe t → HasShape s t →
+    bytes ≡ snapshot t →
     f ≡ faults.Memory
 refused_for_memory s bytes faults.NoCounters t h fits can w is = absurd (none_short t fits bytes is h)
 refused_for_memory s bytes (faults.NoEntry at) t h fits can w is = absurd (no_entries t fits bytes is at h)
@@ -151,34 +157,40 @@ refused_restored s bytes c es xs faults.Memory p h = tt
 
 -- What results of a whole call.
 
-pub spelled_of : (r : Result Restored SnapshotFault) (s : Shape) (bytes : List ℕ) (c : Counters) (es : List NameEntry) (xs : List Extent) → ArePartsOf bytes c es xs →
+pub spelled_of : (r : Result Restored SnapshotFault) (s : Shape) (bytes : List ℕ) (c : Counters) (es : List NameEntry) (xs : List Extent) →
+    ArePartsOf bytes c es xs →
     IfOk r (λ x. stable_of x ≡ stable_with s c es xs) → IfOk r (λ x. bytes ≡ snapshot (stable_of x))
 spelled_of (Ok x) s bytes c es xs p e = parts_spell s bytes c es xs p ∙ ap snapshot (sym e)
 spelled_of (Err f) s bytes c es xs p e = tt
 
-pub fit_of : (r : Result Restored SnapshotFault) (s : Shape) (bytes : List ℕ) (c : Counters) (es : List NameEntry) (xs : List Extent) → ArePartsOf bytes c es xs →
+pub fit_of : (r : Result Restored SnapshotFault) (s : Shape) (bytes : List ℕ) (c : Counters) (es : List NameEntry) (xs : List Extent) →
+    ArePartsOf bytes c es xs →
     IfOk r (λ x. stable_of x ≡ stable_with s c es xs) → IfOk r (λ x. Fits (stable_of x))
 fit_of (Ok x) s bytes c es xs p e = subst Fits (sym e) (parts_fit s bytes c es xs p)
 fit_of (Err f) s bytes c es xs p e = tt
 
-pub shape_of : (r : Result Restored SnapshotFault) (s : Shape) (c : Counters) (es : List NameEntry) (xs : List Extent) → IfOk r (λ x. stable_of x ≡ stable_with s c es xs) →
+pub shape_of : (r : Result Restored SnapshotFault) (s : Shape) (c : Counters) (es : List NameEntry) (xs : List Extent) →
+    IfOk r (λ x. stable_of x ≡ stable_with s c es xs) →
     IfOk r (λ x. HasShape s (stable_of x))
 shape_of (Ok x) s c es xs e = subst (λ (t : Stable). HasShape s t) (sym e) refl
 shape_of (Err f) s c es xs e = tt
 
-pub refused_of : (r : Result Restored SnapshotFault) (s : Shape) (bytes : List ℕ) (c : Counters) (es : List NameEntry) (xs : List Extent) → ArePartsOf bytes c es xs →
+pub refused_of : (r : Result Restored SnapshotFault) (s : Shape) (bytes : List ℕ) (c : Counters) (es : List NameEntry) (xs : List Extent) →
+    ArePartsOf bytes c es xs →
     IfErr r (IsNotRestored (stable_with s c es xs)) → IfErr r (IsRefused s bytes)
 refused_of (Ok x) s bytes c es xs p e = tt
 refused_of (Err f) s bytes c es xs p e = refused_restored s bytes c es xs f p e
 
-pub read_exactly : (s : Shape) (bytes : List ℕ) (r : Result Restored SnapshotFault) → IfOk r (λ x. bytes ≡ snapshot (stable_of x)) → IfOk r (λ x. Fits (stable_of x)) →
+pub read_exactly : (s : Shape) (bytes : List ℕ) (r : Result Restored SnapshotFault) → IfOk r (λ x. bytes ≡ snapshot (stable_of x)) →
+    IfOk r (λ x. Fits (stable_of x)) →
     IfOk r (λ x. HasShape s (stable_of x)) → IfErr r (IsRefused s bytes) → (t : Stable) → Fits t → CanBe t → HasShape s t → bytes ≡ snapshot t → IsReadAs t r
 read_exactly s bytes (Ok x) a b w err t fits can shape is = snapshot_once s (stable_of x) t b fits w shape (sym a ∙ is)
 read_exactly s bytes (Err f) a b w err t fits can shape is = refused_for_memory s bytes f t err fits can shape is
 
 -- What is read one after another.
 
-pub entries_refused : (bytes rest : List ℕ) (c : Counters) (f : SnapshotFault) → bytes ≡ counters c ++ rest → CountersFit c → IsNoEntry rest c.entries (length bytes) f →
+pub entries_refused : (bytes rest : List ℕ) (c : Counters) (f : SnapshotFault) → bytes ≡ counters c ++ rest → CountersFit c →
+    IsNoEntry rest c.entries (length bytes) f →
     HasNoParts bytes f
 entries_refused bytes rest c faults.NoCounters e fit h = absurd h
 entries_refused bytes rest c (faults.NoEntry at) e fit h = record { c = c; rest = rest; parts = e; fit = fit; stops = h }
@@ -218,23 +230,27 @@ parts_read bytes rest others more c es xs e fit a b = record {
   pages_fit = b.each;
 }
 
-pub nothing_more : (bytes more : List ℕ) (c : Counters) (es : List NameEntry) (xs : List Extent) → ArePartsBefore bytes c es xs more → length more ≡ 0 → ArePartsOf bytes c es xs
+pub nothing_more : (bytes more : List ℕ) (c : Counters) (es : List NameEntry) (xs : List Extent) → ArePartsBefore bytes c es xs more → length more ≡ 0 →
+    ArePartsOf bytes c es xs
 nothing_more bytes more c es xs p e = subst (λ (l : List ℕ). ArePartsBefore bytes c es xs l) (none_long more e) p
 
 pub after_short : (bytes rest others more : List ℕ) (c : Counters) (es : List NameEntry) (xs : List Extent) → bytes ≡ counters c ++ rest →
-    AreRead entry EntryFits rest c.entries es others → AreRead page PageFits others c.pages xs more → (length others ≤ length bytes) × (length more ≤ length bytes)
+    AreRead entry EntryFits rest c.entries es others → AreRead page PageFits others c.pages xs more →
+    (length others ≤ length bytes) × (length more ≤ length bytes)
 after_short bytes rest others more c es xs e a b =
     let first = length-append (counters c) rest in
     let second = length-append (rows entry es) others in
     let third = length-append (rows page xs) more in
     (omega (arith, first, second, ap length e, ap length a.parts), omega (arith, first, second, third, ap length e, ap length a.parts, ap length b.parts))
 
-pub longer : (bytes more : List ℕ) (c : Counters) (es : List NameEntry) (xs : List Extent) (at : ℕ) → ArePartsBefore bytes c es xs more → 1 ≤ length more → at + length more ≡ length bytes →
+pub longer : (bytes more : List ℕ) (c : Counters) (es : List NameEntry) (xs : List Extent) (at : ℕ) → ArePartsBefore bytes c es xs more → 1 ≤ length more →
+    at + length more ≡ length bytes →
     GoesOn bytes at
 longer bytes more c es xs at p s e = record { c = c; es = es; xs = xs; more = more; parts = p; some = s; place = e }
 
 -- What is written is the snapshot.
-pub snapshot_made : (t : Stable) (c : Counters) (es : List NameEntry) (xs : List Extent) (out : List ℕ) → es ≡ t.names.entries → xs ≡ t.extents.rows → c ≡ counters_of t →
+pub snapshot_made : (t : Stable) (c : Counters) (es : List NameEntry) (xs : List Extent) (out : List ℕ) → es ≡ t.names.entries → xs ≡ t.extents.rows →
+    c ≡ counters_of t →
     out ≡ (counters c ++ rows entry es) ++ rows page xs → out ≡ snapshot t
 snapshot_made t c es xs out e f g o =
     o ∙ (append_assoc (counters c) (rows entry es) (rows page xs) ∙ (rw (e, f, g) refl ∙ sym (snapshot_is t)))

@@ -53,13 +53,15 @@ read_more f fits bytes rest more n m xs x a e p s = record {
   each = each_more fits xs x a.each p;
 }
 
-pub stops : {A : Type 0} (f : A → List ℕ) (fits : A → Type 0) (bytes rest : List ℕ) (n count whole at : ℕ) (xs : List A) → AreRead f fits bytes n xs rest → n < count →
+pub stops : {A : Type 0} (f : A → List ℕ) (fits : A → Type 0) (bytes rest : List ℕ) (n count whole at : ℕ) (xs : List A) → AreRead f fits bytes n xs rest →
+    n < count →
     at + length rest ≡ whole → ((x : A) (more : List ℕ) → fits x → rest ≡ f x ++ more → ⊥) → StopsAt f fits bytes count whole at
 stops f fits bytes rest n count whole at xs a l p none =
     record { done = xs; rest = rest; parts = a.parts; fewer = omega (arith, a.many, l); each = a.each; place = p; none = none }
 
 -- the rest of what is read is not longer
-pub rest_short : {A : Type 0} (f : A → List ℕ) (fits : A → Type 0) (bytes rest : List ℕ) (n : ℕ) (xs : List A) → AreRead f fits bytes n xs rest → length rest ≤ length bytes
+pub rest_short : {A : Type 0} (f : A → List ℕ) (fits : A → Type 0) (bytes rest : List ℕ) (n : ℕ) (xs : List A) → AreRead f fits bytes n xs rest →
+    length rest ≤ length bytes
 rest_short f fits bytes rest n xs a = omega (arith, ap length a.parts, length-append (rows f xs) rest)
 
 -- rows that are written so far

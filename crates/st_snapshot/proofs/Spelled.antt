@@ -42,7 +42,8 @@ entry_is e r = regroup_3 (word32 e.dir) (word32 e.ino) (word64 (length e.name)) 
 
 -- the numbers in front of an entry are known
 pub behind_numbers : (e : NameEntry) (dir ino len : ℕ) (rest more : List ℕ) → EntryFits e → dir < 2 ^ 32 → ino < 2 ^ 32 → len < 2 ^ 64 →
-    word32 dir ++ (word32 ino ++ (word64 len ++ rest)) ≡ entry e ++ more → (dir ≡ e.dir) × ((ino ≡ e.ino) × ((len ≡ length e.name) × (rest ≡ mark e.directory ∷ (e.name ++ more))))
+    word32 dir ++ (word32 ino ++ (word64 len ++ rest)) ≡ entry e ++ more →
+    (dir ≡ e.dir) × ((ino ≡ e.ino) × ((len ≡ length e.name) × (rest ≡ mark e.directory ∷ (e.name ++ more))))
 behind_numbers e dir ino len rest more fits d i l is =
     let whole = is ∙ entry_is e more in
     let first = once_32 dir e.dir _ _ d fits.dir whole in
@@ -51,16 +52,19 @@ behind_numbers e dir ino len rest more fits d i l is =
     (first.0, (second.0, (third.0, third.1)))
 
 -- an entry whose parts were read
-pub entry_found : (e : NameEntry) (bytes rest others name more : List ℕ) (dir ino len : ℕ) (d : Bool) → bytes ≡ word32 dir ++ (word32 ino ++ (word64 len ++ rest)) → rest ≡ mark d ∷ others →
+pub entry_found : (e : NameEntry) (bytes rest others name more : List ℕ) (dir ino len : ℕ) (d : Bool) →
+    bytes ≡ word32 dir ++ (word32 ino ++ (word64 len ++ rest)) → rest ≡ mark d ∷ others →
     others ≡ name ++ more → length name ≡ len → e.dir ≡ dir → e.ino ≡ ino → e.directory ≡ d → e.name ≡ name → bytes ≡ entry e ++ more
 entry_found e bytes rest others name more dir ino len d parts f g n a b c h = parts ∙ (rw (a, b, c, h, n, f, g) refl ∙ sym (entry_is e more))
 
-pub no_mark : (e : NameEntry) (dir ino len : ℕ) (bytes rest more : List ℕ) → bytes ≡ word32 dir ++ (word32 ino ++ (word64 len ++ rest)) → dir < 2 ^ 32 → ino < 2 ^ 32 → len < 2 ^ 64 →
+pub no_mark : (e : NameEntry) (dir ino len : ℕ) (bytes rest more : List ℕ) → bytes ≡ word32 dir ++ (word32 ino ++ (word64 len ++ rest)) → dir < 2 ^ 32 →
+    ino < 2 ^ 32 → len < 2 ^ 64 →
     ((b : Bool) (others : List ℕ) → rest ≡ mark b ∷ others → ⊥) → EntryFits e → bytes ≡ entry e ++ more → ⊥
 no_mark e dir ino len bytes rest more parts d i l none fits is =
     none e.directory (e.name ++ more) (behind_numbers e dir ino len rest more fits d i l (sym parts ∙ is)).1.1.1
 
-pub no_name : (e : NameEntry) (dir ino len : ℕ) (bytes rest others more : List ℕ) (b : Bool) → bytes ≡ word32 dir ++ (word32 ino ++ (word64 len ++ rest)) → dir < 2 ^ 32 → ino < 2 ^ 32 →
+pub no_name : (e : NameEntry) (dir ino len : ℕ) (bytes rest others more : List ℕ) (b : Bool) → bytes ≡ word32 dir ++ (word32 ino ++ (word64 len ++ rest)) →
+    dir < 2 ^ 32 → ino < 2 ^ 32 →
     len < 2 ^ 64 → rest ≡ mark b ∷ others → length others < len → EntryFits e → bytes ≡ entry e ++ more → ⊥
 no_name e dir ino len bytes rest others more b parts d i l found short fits is =
     let known = behind_numbers e dir ino len rest more fits d i l (sym parts ∙ is) in
@@ -80,7 +84,8 @@ entry_long e bytes more is = let n = ap length (is ∙ entry_is e more) in omega
 
 -- A mapped page.
 
-pub page_is : (e : Extent) (r : List ℕ) → page e ++ r ≡ word16 e.file.server.0 ++ (word32 e.file.ino ++ (word32 e.page.0 ++ (word16 e.at.disk.0 ++ (word32 e.at.block ++ (word64 e.birth ++ r)))))
+pub page_is : (e : Extent) (r : List ℕ) → page e ++ r ≡ word16 e.file.server.0 ++
+    (word32 e.file.ino ++ (word32 e.page.0 ++ (word16 e.at.disk.0 ++ (word32 e.at.block ++ (word64 e.birth ++ r)))))
 unfolding page
 page_is e r = regroup_5 (word16 e.file.server.0) (word32 e.file.ino) (word32 e.page.0) (word16 e.at.disk.0) (word32 e.at.block) (word64 e.birth) r
 

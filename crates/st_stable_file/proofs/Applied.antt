@@ -36,7 +36,8 @@ opened_same x = ap (λ (l : List ℕ). OPEN ∷ l) (part_same ((dated stables).s
 abbrev change_at : (t u : Stable) (last moment : ℕ) (bytes : List ℕ) → IsChange t last bytes u moment → Dated Change
 change_at t u last moment bytes i = record { moment = moment; fits = i.small; made = i.change }
 
-spelled_so : (t u : Stable) (last moment : ℕ) (bytes : List ℕ) (i : IsChange t last bytes u moment) → (dated stables).spelled (change_at t u last moment bytes i) ≡ bytes
+spelled_so : (t u : Stable) (last moment : ℕ) (bytes : List ℕ) (i : IsChange t last bytes u moment) →
+    (dated stables).spelled (change_at t u last moment bytes i) ≡ bytes
 spelled_so t u last moment bytes i = sym i.parts
 
 applied_so : (d : Dated Stable) (t u : Stable) (last moment : ℕ) (bytes : List ℕ) (i : IsChange t last bytes u moment) → d.made ≡ t → d.moment ≡ last →
@@ -53,7 +54,8 @@ each_more P (y ∷ xs) x a p = (a.0, each_more P xs x a.1 p)
 pub applied_none : (bytes : List ℕ) (d : Dated Stable) (t : Stable) (first : ℕ) → d.made ≡ t → d.moment ≡ first → AreApplied bytes d bytes t first 0
 applied_none bytes d t first made when = record { changes = []; parts = refl; each = tt; many = refl; state = d; leads = refl; made = made; when = when }
 
-pub applied_more : (bytes : List ℕ) (d : Dated Stable) (rest more record_bytes : List ℕ) (t u : Stable) (last moment count : ℕ) → AreApplied bytes d rest t last count →
+pub applied_more : (bytes : List ℕ) (d : Dated Stable) (rest more record_bytes : List ℕ) (t u : Stable) (last moment count : ℕ) →
+    AreApplied bytes d rest t last count →
     rest ≡ opened plain record_bytes ++ more → IsChange t last record_bytes u moment → AreApplied bytes d more u moment (count + 1)
 applied_more bytes d rest more record_bytes t u last moment count a e i =
     let x = change_at t u last moment record_bytes i in
@@ -84,7 +86,8 @@ tail_is : (a b : ℕ) (xs ys : List ℕ) → a ∷ xs ≡ b ∷ ys → xs ≡ ys
 tail_is a b xs ys e = cc
 
 -- where neither gate can be read
-pub stops_unread : (bytes : List ℕ) (d : Dated Stable) (rest : List ℕ) (t : Stable) (last count whole at : ℕ) → AreApplied bytes d rest t last count → at + length rest ≡ whole →
+pub stops_unread : (bytes : List ℕ) (d : Dated Stable) (rest : List ℕ) (t : Stable) (last count whole at : ℕ) → AreApplied bytes d rest t last count →
+    at + length rest ≡ whole →
     IsUnread rest → StopsAt bytes d whole at
 stops_unread bytes d rest t last count whole at a p none = record {
   t = t;
@@ -98,8 +101,10 @@ stops_unread bytes d rest t last count whole at a p none = record {
 }
 
 -- where a record isn't a change that applies
-pub stops_record : (bytes : List ℕ) (d : Dated Stable) (rest more record_bytes : List ℕ) (t : Stable) (last count whole at : ℕ) → AreApplied bytes d rest t last count →
-    at + length rest ≡ whole → length rest < 2 ^ 32 → rest ≡ opened plain record_bytes ++ more → ((u : Stable) (moment : ℕ) → IsChange t last record_bytes u moment → ⊥) →
+pub stops_record : (bytes : List ℕ) (d : Dated Stable) (rest more record_bytes : List ℕ) (t : Stable) (last count whole at : ℕ) →
+    AreApplied bytes d rest t last count →
+    at + length rest ≡ whole → length rest < 2 ^ 32 → rest ≡ opened plain record_bytes ++ more →
+    ((u : Stable) (moment : ℕ) → IsChange t last record_bytes u moment → ⊥) →
     StopsAt bytes d whole at
 stops_record bytes d rest more record_bytes t last count whole at a p small e none = record {
   t = t;
@@ -111,7 +116,8 @@ stops_record bytes d rest more record_bytes t last count whole at a p small e no
   closed = λ c. closed_open (sym (head_is OPEN CLOSED (part plain record_bytes ++ more) c.rest (sym e ∙ c.parts)));
   none = λ other others u later short f i.
       let brief : length record_bytes < 2 ^ 32 = omega (arith, small, ap length e, length-append (part plain record_bytes) more, length-part record_bytes) in
-      let same = part_once record_bytes other more others brief short (tail_is OPEN OPEN (part plain record_bytes ++ more) (part plain other ++ others) (sym e ∙ f)) in
+      let same = part_once record_bytes other more others brief short
+      (tail_is OPEN OPEN (part plain record_bytes ++ more) (part plain other ++ others) (sym e ∙ f)) in
       none u later (subst (λ (l : List ℕ). IsChange t last l u later) (sym same.0) i);
 }
 
@@ -119,20 +125,24 @@ stops_record bytes d rest more record_bytes t last count whole at a p small e no
 pub smaller : (rest more record_bytes : List ℕ) → rest ≡ opened plain record_bytes ++ more → length more + 1 ≤ length rest
 smaller rest more record_bytes e = omega (arith, ap length e, length-append (part plain record_bytes) more)
 
-pub refused_gate : (bytes : List ℕ) (d : Dated Stable) (rest : List ℕ) (t : Stable) (last count whole at : ℕ) (f : StableFault) → AreApplied bytes d rest t last count →
+pub refused_gate : (bytes : List ℕ) (d : Dated Stable) (rest : List ℕ) (t : Stable) (last count whole at : ℕ) (f : StableFault) →
+    AreApplied bytes d rest t last count →
     at + length rest ≡ whole → IsUnread rest → f ≡ faults.Damaged at → AreNotApplied bytes d whole f
 refused_gate bytes d rest t last count whole at f a p none e =
     subst (λ (g : StableFault). AreNotApplied bytes d whole g) (sym e) (stops_unread bytes d rest t last count whole at a p none)
 
-pub refused_record : (bytes : List ℕ) (d : Dated Stable) (rest more record_bytes : List ℕ) (t : Stable) (last count whole at : ℕ) (f : StableFault) → AreApplied bytes d rest t last count →
-    at + length rest ≡ whole → length rest < 2 ^ 32 → rest ≡ opened plain record_bytes ++ more → IsNoChange t last record_bytes at f → AreNotApplied bytes d whole f
+pub refused_record : (bytes : List ℕ) (d : Dated Stable) (rest more record_bytes : List ℕ) (t : Stable) (last count whole at : ℕ) (f : StableFault) →
+    AreApplied bytes d rest t last count →
+    at + length rest ≡ whole → length rest < 2 ^ 32 → rest ≡ opened plain record_bytes ++ more → IsNoChange t last record_bytes at f →
+    AreNotApplied bytes d whole f
 refused_record bytes d rest more record_bytes t last count whole at (faults.Damaged place) a p small e h =
     subst (λ (n : ℕ). StopsAt bytes d whole n) (sym h.0) (stops_record bytes d rest more record_bytes t last count whole at a p small e h.1)
 refused_record bytes d rest more record_bytes t last count whole at (faults.Snapshot g) a p small e h = absurd h
 refused_record bytes d rest more record_bytes t last count whole at faults.Memory a p small e h = tt
 
 -- a snapshot, and the changes after it
-module _ (s : Shape) (bytes snapshot_bytes rest : List ℕ) (t : Stable) (moment : ℕ) (parts : bytes ≡ part plain snapshot_bytes ++ rest) (i : IsSnapshot s snapshot_bytes t moment) where
+module _ (s : Shape) (bytes snapshot_bytes rest : List ℕ) (t : Stable) (moment : ℕ) (parts : bytes ≡ part plain snapshot_bytes ++ rest)
+    (i : IsSnapshot s snapshot_bytes t moment) where
   abbrev first : Dated Stable
   first = record { moment = moment; fits = i.small; made = t }
 
@@ -140,18 +150,21 @@ module _ (s : Shape) (bytes snapshot_bytes rest : List ℕ) (t : Stable) (moment
   spelled_first = parts ∙ ap (λ (l : List ℕ). part plain l ++ rest) i.parts
 
   pub not_opened : (f : StableFault) → ((d : Dated Stable) → d.made ≡ t → d.moment ≡ moment → AreNotApplied rest d (length bytes) f) → IsNotOpened s bytes f
-  not_opened (faults.Damaged at) h = inr (record { first = first; fits = i.fits; shape = i.shape; rest = rest; parts = spelled_first; stops = h first refl refl })
+  not_opened (faults.Damaged at) h =
+      inr (record { first = first; fits = i.fits; shape = i.shape; rest = rest; parts = spelled_first; stops = h first refl refl })
   not_opened (faults.Snapshot g) h = absurd (h first refl refl)
   not_opened faults.Memory h = tt
 
-  whole : (changes : List (Dated Change)) (more : List ℕ) → rest ≡ all_opened (dated stables) changes ++ CLOSED ∷ more → bytes ≡ front (dated stables) first changes ++ CLOSED ∷ more
+  whole : (changes : List (Dated Change)) (more : List ℕ) → rest ≡ all_opened (dated stables) changes ++ CLOSED ∷ more →
+      bytes ≡ front (dated stables) first changes ++ CLOSED ∷ more
   whole changes more e =
       spelled_first ∙
       (ap (λ (l : List ℕ). l ++ rest) (sym (part_same (dated_bytes moment (snapshot t)))) ∙
       (ap (λ (l : List ℕ). part (dated stables) ((dated stables).snapshot first) ++ l) e ∙
       sym (append_assoc (part (dated stables) ((dated stables).snapshot first)) (all_opened (dated stables) changes) (CLOSED ∷ more))))
 
-  pub opens : (u : Stable) (o : OpenedArea) → ((d : Dated Stable) → d.made ≡ t → d.moment ≡ moment → AreAllApplied rest d (length bytes) u o.end) → stable_of o.stable ≡ u → Opens s bytes o
+  pub opens : (u : Stable) (o : OpenedArea) → ((d : Dated Stable) → d.made ≡ t → d.moment ≡ moment → AreAllApplied rest d (length bytes) u o.end) →
+      stable_of o.stable ≡ u → Opens s bytes o
   opens u o h e =
       let a : AreAllApplied rest first (length bytes) u o.end = h first refl refl in
       let all = whole a.applied.changes a.rest a.applied.parts in

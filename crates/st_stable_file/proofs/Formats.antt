@@ -30,15 +30,18 @@ module _ {S C : Type 0} (s : Shape) (f : Format S C) (i : IsOfStables s f) where
   all_of [] = refl
   all_of (x ∷ xs) =
       ap (λ (l : List ℕ). (OPEN ∷ l) ++ all_opened (dated f) xs)
-      (part_of (dated_bytes x.moment (f.spelled x.made)) (dated_bytes x.moment (bytes_of (i.change x.made))) (ap (λ (l : List ℕ). dated_bytes x.moment l) (i.spelled x.made)))
+      (part_of (dated_bytes x.moment (f.spelled x.made)) (dated_bytes x.moment (bytes_of (i.change x.made)))
+      (ap (λ (l : List ℕ). dated_bytes x.moment l) (i.spelled x.made)))
       ∙ ap (λ (l : List ℕ). opened (dated stables) (change_of x) ++ l) (all_of xs)
 
-  area_made : (bytes : List ℕ) (d : Dated S) (xs : List (Dated C)) → IsArea (dated f) bytes d xs → IsArea (dated stables) bytes (state_of s f i d) (map change_of xs)
+  area_made : (bytes : List ℕ) (d : Dated S) (xs : List (Dated C)) → IsArea (dated f) bytes d xs →
+      IsArea (dated stables) bytes (state_of s f i d) (map change_of xs)
   area_made bytes d xs a = record {
     rest = a.rest;
     parts = a.parts ∙ ap (λ (l : List ℕ). l ++ CLOSED ∷ a.rest)
         (ap (λ (l : List ℕ). l ++ all_opened (dated f) xs)
-        (part_of (dated_bytes d.moment (f.snapshot d.made)) (dated_bytes d.moment (snapshot (i.stable d.made))) (ap (λ (l : List ℕ). dated_bytes d.moment l) (i.snapshots d.made)))
+        (part_of (dated_bytes d.moment (f.snapshot d.made)) (dated_bytes d.moment (snapshot (i.stable d.made)))
+        (ap (λ (l : List ℕ). dated_bytes d.moment l) (i.snapshots d.made)))
         ∙ ap (λ (l : List ℕ). part (dated stables) ((dated stables).snapshot (state_of s f i d)) ++ l) (all_of xs));
   }
 
@@ -52,7 +55,8 @@ module _ {S C : Type 0} (s : Shape) (f : Format S C) (i : IsOfStables s f) where
   step_cases x false None = refl
   step_cases x false (Some t) = refl
 
-  step_made : (o : Option (Dated S)) (x : Dated C) → option_map (state_of s f i) (after_change (dated f) o x) ≡ after_change (dated stables) (option_map (state_of s f i) o) (change_of x)
+  step_made : (o : Option (Dated S)) (x : Dated C) → option_map (state_of s f i) (after_change (dated f) o x) ≡ after_change (dated stables)
+      (option_map (state_of s f i) o) (change_of x)
   step_made None x = refl
   step_made (Some d) x = step_cases x (ltb x.moment d.moment) (f.apply d.made x.made) ∙
       ap (λ (o : Option Stable). cond (ltb x.moment d.moment) None (option_map (after_dated (change_of x)) o)) (i.applied d.made x.made)
@@ -62,7 +66,8 @@ module _ {S C : Type 0} (s : Shape) (f : Format S C) (i : IsOfStables s f) where
   steps_made o [] = refl
   steps_made o (x ∷ xs) = steps_made (after_change (dated f) o x) xs ∙ ap (λ p. after_changes (dated stables) p (map change_of xs)) (step_made o x)
 
-  pub can_be_opened : (bytes : List ℕ) (start u : Dated S) (changes : List (Dated C)) → StandsFor (dated f) start bytes changes → after_changes (dated f) (Some start) changes ≡ Some u →
+  pub can_be_opened : (bytes : List ℕ) (start u : Dated S) (changes : List (Dated C)) → StandsFor (dated f) start bytes changes →
+      after_changes (dated f) (Some start) changes ≡ Some u →
       CanBeOpened s bytes (state_of s f i u)
   can_be_opened bytes start u changes stands leads = record {
     stands = record {
@@ -86,7 +91,8 @@ module _ {S C : Type 0} (s : Shape) (f : Format S C) (i : IsOfStables s f) where
     pub leads : after_changes (dated f) (Some start) xs ≡ Some state
 
   -- if no change was refused, neither was one of the first ones
-  begun_reaches : (start u : Dated S) (xs ys : List (Dated C)) (o : Option (Dated S)) → after_changes (dated f) (Some start) xs ≡ o → after_changes (dated f) o ys ≡ Some u → Reaches start xs
+  begun_reaches : (start u : Dated S) (xs ys : List (Dated C)) (o : Option (Dated S)) → after_changes (dated f) (Some start) xs ≡ o →
+      after_changes (dated f) o ys ≡ Some u → Reaches start xs
   begun_reaches start u xs ys None e g = absurd (none_stays ys u g)
   begun_reaches start u xs ys (Some d) e g = record { state = d; leads = e }
 
@@ -95,13 +101,17 @@ module _ {S C : Type 0} (s : Shape) (f : Format S C) (i : IsOfStables s f) where
       begun_reaches start u xs b.others (after_changes (dated f) (Some start) xs) refl
       (sym (after_changes-append (dated f) (Some start) xs b.others) ∙ (ap (λ ys. after_changes (dated f) (Some start) ys) (sym b.parts) ∙ e))
 
-  opened_so : (start : Dated S) (header : List ℕ) (left : File) (changes : List (Dated C)) (state : Dated S) → after_changes (dated f) (Some start) changes ≡ Some state →
+  opened_so : (start : Dated S) (header : List ℕ) (left : File) (changes : List (Dated C)) (state : Dated S) →
+      after_changes (dated f) (Some start) changes ≡ Some state →
       ((current : Bool) × IsMade (dated f) start header left current changes) ⊎ IsBlank left changes →
-      ((left.made ≡ CLOSED) × (changes ≡ [])) ⊎ ((left.made ≡ OPEN) × ((current : Bool) × ((left.switch ≡ switch_of current) × CanBeOpened s (area_of current left) (state_of s f i state))))
-  opened_so start header left changes state leads (inl m) = inr (m.1.made, (m.0, (m.1.switch, can_be_opened (area_of m.0 left) start state changes m.1.area leads)))
+      ((left.made ≡ CLOSED) × (changes ≡ [])) ⊎
+      ((left.made ≡ OPEN) × ((current : Bool) × ((left.switch ≡ switch_of current) × CanBeOpened s (area_of current left) (state_of s f i state))))
+  opened_so start header left changes state leads (inl m) =
+      inr (m.1.made, (m.0, (m.1.switch, can_be_opened (area_of m.0 left) start state changes m.1.area leads)))
   opened_so start header left changes state leads (inr b) = inl (b.blank, b.none)
 
-  pub opened_after : (start : Dated S) (header : List ℕ) (k : Keeper (Dated S) (Dated C)) (left : File) (u : Dated S) → IsReached (dated f) start header k → IsLeft k.synced k.seen left →
+  pub opened_after : (start : Dated S) (header : List ℕ) (k : Keeper (Dated S) (Dated C)) (left : File) (u : Dated S) → IsReached (dated f) start header k →
+      IsLeft k.synced k.seen left →
       after_changes (dated f) (Some start) (k.kept ++ k.waiting) ≡ Some u → IsOpened s f i start k left
   opened_after start header k left u r l e =
       let h = found (dated f) start header k left r l in

@@ -33,14 +33,19 @@ use Rattle.st_stable_file.proofs.Applied.{opened_same, part_same}
 
 -- what was made at one moment is one
 
-one_proof : {A : Type 0} (m : ℕ) (f g : m < 2 ^ 64) (a : A) → ◌≡◌ {A = Dated A} (record { moment = m; fits = f; made = a }) (record { moment = m; fits = g; made = a })
+one_proof : {A : Type 0} (m : ℕ) (f g : m < 2 ^ 64) (a : A) →
+    ◌≡◌ {A = Dated A} (record { moment = m; fits = f; made = a }) (record { moment = m; fits = g; made = a })
 one_proof {A = A} m f g a = ap {B = Dated A} (λ (h : m < 2 ^ 64). record { moment = m; fits = h; made = a }) (le_prop f g)
 
-one_moment : {A : Type 0} (m n : ℕ) (e : m ≡ n) (f : m < 2 ^ 64) (g : n < 2 ^ 64) (a : A) → ◌≡◌ {A = Dated A} (record { moment = m; fits = f; made = a }) (record { moment = n; fits = g; made = a })
-one_moment {A = A} m n e f g a = subst (λ (k : ℕ). (h : k < 2 ^ 64) → ◌≡◌ {A = Dated A} (record { moment = m; fits = f; made = a }) (record { moment = k; fits = h; made = a })) e (λ h. one_proof m f h a) g
+one_moment : {A : Type 0} (m n : ℕ) (e : m ≡ n) (f : m < 2 ^ 64) (g : n < 2 ^ 64) (a : A) →
+    ◌≡◌ {A = Dated A} (record { moment = m; fits = f; made = a }) (record { moment = n; fits = g; made = a })
+one_moment {A = A} m n e f g a =
+    subst (λ (k : ℕ). (h : k < 2 ^ 64) → ◌≡◌ {A = Dated A} (record { moment = m; fits = f; made = a }) (record { moment = k; fits = h; made = a })) e
+    (λ h. one_proof m f h a) g
 
 pub dated_same : {A : Type 0} (d e : Dated A) → d.moment ≡ e.moment → d.made ≡ e.made → d ≡ e
-dated_same {A = A} d e m a = one_moment d.moment e.moment m d.fits e.fits d.made ∙ ap {B = Dated A} (λ (x : A). record { moment = e.moment; fits = e.fits; made = x }) a
+dated_same {A = A} d e m a = one_moment d.moment e.moment m d.fits e.fits d.made ∙
+    ap {B = Dated A} (λ (x : A). record { moment = e.moment; fits = e.fits; made = x }) a
 
 -- two dated lists of bytes
 pub dated_once : (m n : ℕ) (xs ys : List ℕ) → m < 2 ^ 64 → n < 2 ^ 64 → dated_bytes m xs ≡ dated_bytes n ys → (m ≡ n) × (xs ≡ ys)
@@ -104,26 +109,33 @@ brief x xs r few =
     (omega (arith, few, size, parts, part_size), omega (arith, few, size, parts, part_size))
 
 -- Two lists of changes with the same bytes are one.
-first_same : (x y : Dated Change) (xs ys : List (Dated Change)) (r q : List ℕ) → length (all_opened (dated stables) (x ∷ xs) ++ r) < 2 ^ 32 → DatedFits x → DatedFits y →
-    all_opened (dated stables) (x ∷ xs) ++ r ≡ all_opened (dated stables) (y ∷ ys) ++ q → (x ≡ y) × (all_opened (dated stables) xs ++ r ≡ all_opened (dated stables) ys ++ q)
+first_same : (x y : Dated Change) (xs ys : List (Dated Change)) (r q : List ℕ) → length (all_opened (dated stables) (x ∷ xs) ++ r) < 2 ^ 32 → DatedFits x →
+    DatedFits y →
+    all_opened (dated stables) (x ∷ xs) ++ r ≡ all_opened (dated stables) (y ∷ ys) ++ q →
+    (x ≡ y) × (all_opened (dated stables) xs ++ r ≡ all_opened (dated stables) ys ++ q)
 first_same x y xs ys r q few f g e =
     let other : length (all_opened (dated stables) (y ∷ ys) ++ q) < 2 ^ 32 = subst (λ (l : List ℕ). length l < 2 ^ 32) e few in
     let one = part_once ((dated stables).spelled x) ((dated stables).spelled y) (all_opened (dated stables) xs ++ r) (all_opened (dated stables) ys ++ q)
     (brief x xs r few).0 (brief y ys q other).0
-    (tail_is OPEN OPEN (part plain ((dated stables).spelled x) ++ (all_opened (dated stables) xs ++ r)) (part plain ((dated stables).spelled y) ++ (all_opened (dated stables) ys ++ q))
+    (tail_is OPEN OPEN (part plain ((dated stables).spelled x) ++ (all_opened (dated stables) xs ++ r))
+    (part plain ((dated stables).spelled y) ++ (all_opened (dated stables) ys ++ q))
     (sym (opened_is x xs r) ∙ (e ∙ opened_is y ys q))) in
     (dated_change_once x y f g one.0, one.1)
 
 cons_same : {A : Type 0} (x y : A) (xs ys : List A) → x ≡ y → xs ≡ ys → x ∷ xs ≡ y ∷ ys
 cons_same x y xs ys e f = cc
 
-pub changes_once : (xs ys : List (Dated Change)) (r q : List ℕ) → length (all_opened (dated stables) xs ++ CLOSED ∷ r) < 2 ^ 32 → AllByRecursion DatedFits xs → AllByRecursion DatedFits ys →
+pub changes_once : (xs ys : List (Dated Change)) (r q : List ℕ) → length (all_opened (dated stables) xs ++ CLOSED ∷ r) < 2 ^ 32 → AllByRecursion DatedFits xs →
+    AllByRecursion DatedFits ys →
     all_opened (dated stables) xs ++ CLOSED ∷ r ≡ all_opened (dated stables) ys ++ CLOSED ∷ q → xs ≡ ys
 changes_once [] [] r q few f g e = refl
 changes_once [] (y ∷ ys) r q few f g e =
-    absurd (closed_open (head_is CLOSED OPEN r (part plain ((dated stables).spelled y) ++ (all_opened (dated stables) ys ++ CLOSED ∷ q)) (e ∙ opened_is y ys (CLOSED ∷ q))))
+    absurd (closed_open
+    (head_is CLOSED OPEN r (part plain ((dated stables).spelled y) ++ (all_opened (dated stables) ys ++ CLOSED ∷ q)) (e ∙ opened_is y ys (CLOSED ∷ q))))
 changes_once (x ∷ xs) [] r q few f g e =
-    absurd (closed_open (sym (head_is OPEN CLOSED (part plain ((dated stables).spelled x) ++ (all_opened (dated stables) xs ++ CLOSED ∷ r)) q (sym (opened_is x xs (CLOSED ∷ r)) ∙ e))))
+    absurd (closed_open
+    (sym (head_is OPEN CLOSED (part plain ((dated stables).spelled x) ++ (all_opened (dated stables) xs ++ CLOSED ∷ r)) q
+    (sym (opened_is x xs (CLOSED ∷ r)) ∙ e))))
 changes_once (x ∷ xs) (y ∷ ys) r q few f g e =
     let one = first_same x y xs ys (CLOSED ∷ r) (CLOSED ∷ q) few f.0 g.0 e in
     cons_same x y xs ys one.0 (changes_once xs ys r q (brief x xs (CLOSED ∷ r) few).1 f.1 g.1 one.1)
@@ -135,9 +147,12 @@ step_first : (d e : Dated Stable) (x y : Dated Change) (ys : List (Dated Change)
 step_first d e x y ys u s a is =
     sym (ap (λ (o : Option (Dated Stable)). after_changes (dated stables) o ys) (sym (ap (λ z. apply_dated stables d z) s) ∙ a)) ∙ is
 
-no_change : (d : Dated Stable) (y : Dated Change) (ys : List (Dated Change)) (u : Dated Stable) (r q : List ℕ) (o : Option (Dated Stable)) → apply_dated stables d y ≡ o →
-    after_changes (dated stables) o ys ≡ Some u → DatedFits y → length ((dated stables).spelled y) < 2 ^ 32 → r ≡ all_opened (dated stables) (y ∷ ys) ++ CLOSED ∷ q →
-    ((record_bytes more : List ℕ) (v : Stable) (later : ℕ) → length record_bytes < 2 ^ 32 → r ≡ opened plain record_bytes ++ more → IsChange d.made d.moment record_bytes v later → ⊥) → ⊥
+no_change : (d : Dated Stable) (y : Dated Change) (ys : List (Dated Change)) (u : Dated Stable) (r q : List ℕ) (o : Option (Dated Stable)) →
+    apply_dated stables d y ≡ o →
+    after_changes (dated stables) o ys ≡ Some u → DatedFits y → length ((dated stables).spelled y) < 2 ^ 32 →
+    r ≡ all_opened (dated stables) (y ∷ ys) ++ CLOSED ∷ q →
+    ((record_bytes more : List ℕ) (v : Stable) (later : ℕ) → length record_bytes < 2 ^ 32 → r ≡ opened plain record_bytes ++ more →
+    IsChange d.made d.moment record_bytes v later → ⊥) → ⊥
 no_change d y ys u r q None a is f short e none = none_stays ys u is
 no_change d y ys u r q (Some t) a is f short e none =
     let m = made_so d t y a in
@@ -154,15 +169,18 @@ then_stop d state u x y xs ys (Some e) a s is js others = others e is (step_firs
 here : (d state : Dated Stable) → Some d ≡ Some state → d ≡ state
 here d state e = cc
 
-no_stop : (d state u : Dated Stable) (xs ys : List (Dated Change)) (r q : List ℕ) → length (all_opened (dated stables) xs ++ r) < 2 ^ 32 → AllByRecursion DatedFits xs →
+no_stop : (d state u : Dated Stable) (xs ys : List (Dated Change)) (r q : List ℕ) → length (all_opened (dated stables) xs ++ r) < 2 ^ 32 →
+    AllByRecursion DatedFits xs →
     AllByRecursion DatedFits ys → after_changes (dated stables) (Some d) xs ≡ Some state → after_changes (dated stables) (Some d) ys ≡ Some u →
     all_opened (dated stables) xs ++ r ≡ all_opened (dated stables) ys ++ CLOSED ∷ q → (IsClosed r → ⊥) →
-    ((record_bytes more : List ℕ) (v : Stable) (later : ℕ) → length record_bytes < 2 ^ 32 → r ≡ opened plain record_bytes ++ more → IsChange state.made state.moment record_bytes v later → ⊥)
+    ((record_bytes more : List ℕ) (v : Stable) (later : ℕ) → length record_bytes < 2 ^ 32 → r ≡ opened plain record_bytes ++ more →
+    IsChange state.made state.moment record_bytes v later → ⊥)
     → ⊥
 no_stop d state u [] [] r q few f g is js e closed none = closed (record { rest = q; parts = e })
 no_stop d state u [] (y ∷ ys) r q few f g is js e closed none =
     let short = (brief y ys (CLOSED ∷ q) (subst (λ (l : List ℕ). length l < 2 ^ 32) e few)).0 in
-    no_change state y ys u r q (apply_dated stables state y) refl (subst (λ (b : Dated Stable). after_changes (dated stables) (apply_dated stables b y) ys ≡ Some u) (here d state is) js) g.0 short e none
+    no_change state y ys u r q (apply_dated stables state y) refl
+    (subst (λ (b : Dated Stable). after_changes (dated stables) (apply_dated stables b y) ys ≡ Some u) (here d state is) js) g.0 short e none
 no_stop d state u (x ∷ xs) [] r q few f g is js e closed none =
     closed_open (sym (head_is OPEN CLOSED (part plain ((dated stables).spelled x) ++ (all_opened (dated stables) xs ++ r)) q (sym (opened_is x xs r) ∙ e)))
 no_stop d state u (x ∷ xs) (y ∷ ys) r q few f g is js e closed none =
@@ -192,7 +210,8 @@ module _ (s : Shape) (bytes : List ℕ) (few : length bytes < 2 ^ 32) (state : D
 
   -- whatever is read in front is the snapshot
   in_front : (a r : List ℕ) → bytes ≡ part plain a ++ r → (a ≡ (dated stables).snapshot i.first) × (r ≡ after)
-  in_front a r e = part_once a ((dated stables).snapshot i.first) r after (halves a r bytes e few).0 (halves ((dated stables).snapshot i.first) after bytes whole few).0 (sym e ∙ whole)
+  in_front a r e = part_once a ((dated stables).snapshot i.first) r after (halves a r bytes e few).0
+      (halves ((dated stables).snapshot i.first) after bytes whole few).0 (sym e ∙ whole)
 
   pub has_snapshot : HasNoSnapshot bytes → ⊥
   has_snapshot none = none ((dated stables).snapshot i.first) after (halves ((dated stables).snapshot i.first) after bytes whole few).0 whole
@@ -215,7 +234,10 @@ module _ (s : Shape) (bytes : List ℕ) (few : length bytes < 2 ^ 32) (state : D
       let first : j.first ≡ i.first = dated_state_once s j.first i.first j.fits i.fits j.shape i.shape front_is.0 in
       let short = (halves ((dated stables).snapshot j.first) (all_opened (dated stables) j.changes ++ CLOSED ∷ j.area.rest) bytes theirs few).1 in
       let list : j.changes ≡ i.changes = changes_once j.changes i.changes j.area.rest i.area.rest short j.each i.each front_is.1 in
-      here other state (sym j.leads ∙ (ap (λ (d : Dated Stable). after_changes (dated stables) (Some d) j.changes) first ∙ (ap (λ ys. after_changes (dated stables) (Some i.first) ys) list ∙ i.leads)))
+      here other state
+      (sym j.leads ∙
+      (ap (λ (d : Dated Stable). after_changes (dated stables) (Some d) j.changes) first ∙
+      (ap (λ ys. after_changes (dated stables) (Some i.first) ys) list ∙ i.leads)))
 
 -- after the moments come the same bytes
 behind_moment : (m n : ℕ) (xs ys : List ℕ) → dated_bytes m xs ≡ dated_bytes n ys → xs ≡ ys
@@ -226,13 +248,16 @@ pub long_enough : (m : ℕ) (xs : List ℕ) → length (dated_bytes m xs) < 8 �
 long_enough m xs l = omega (arith, l, length-append (word64 m) xs, length-word64 m)
 
 -- what a server may have is read
-unread_for_memory : (s : Shape) (a : List ℕ) (f : SnapshotFault) (d : Dated Stable) → a ≡ (dated stables).snapshot d → Fits d.made → CanBe d.made → HasShape s d.made →
-    ((length a < 8) × (f ≡ snapshot_faults.NoCounters)) ⊎ ((moment : ℕ) × ((more : List ℕ) × ((a ≡ dated_bytes moment more) × IsRefused s more f))) → f ≡ snapshot_faults.Memory
+unread_for_memory : (s : Shape) (a : List ℕ) (f : SnapshotFault) (d : Dated Stable) → a ≡ (dated stables).snapshot d → Fits d.made → CanBe d.made →
+    HasShape s d.made →
+    ((length a < 8) × (f ≡ snapshot_faults.NoCounters)) ⊎ ((moment : ℕ) × ((more : List ℕ) × ((a ≡ dated_bytes moment more) × IsRefused s more f))) →
+    f ≡ snapshot_faults.Memory
 unread_for_memory s a f d e fits can shape (inl h) = absurd (long_enough d.moment (snapshot d.made) (subst (λ (l : List ℕ). length l < 8) e h.0))
 unread_for_memory s a f d e fits can shape (inr h) =
     refused_for_memory s h.1.0 f d.made h.1.1.1 fits can shape (behind_moment h.0 d.moment h.1.0 (snapshot d.made) (sym h.1.1.0 ∙ e))
 
-pub no_unread : (s : Shape) (a : List ℕ) (f : SnapshotFault) (d : Dated Stable) → a ≡ (dated stables).snapshot d → Fits d.made → CanBe d.made → HasShape s d.made → IsUnread s a f → ⊥
+pub no_unread : (s : Shape) (a : List ℕ) (f : SnapshotFault) (d : Dated Stable) → a ≡ (dated stables).snapshot d → Fits d.made → CanBe d.made →
+    HasShape s d.made → IsUnread s a f → ⊥
 no_unread s a snapshot_faults.NoCounters d e fits can shape h = let m = unread_for_memory s a snapshot_faults.NoCounters d e fits can shape h in absurd cc
 no_unread s a (snapshot_faults.NoEntry at) d e fits can shape h = let m = unread_for_memory s a (snapshot_faults.NoEntry at) d e fits can shape h in absurd cc
 no_unread s a (snapshot_faults.NoPage at) d e fits can shape h = let m = unread_for_memory s a (snapshot_faults.NoPage at) d e fits can shape h in absurd cc
@@ -242,7 +267,8 @@ no_unread s a (snapshot_faults.Extents r) d e fits can shape h = let m = unread_
 no_unread s a snapshot_faults.Memory d e fits can shape h = h
 
 -- What an area stands for is opened, or memory ran out.
-pub opened_exactly : (s : Shape) (bytes : List ℕ) (r : Result OpenedArea StableFault) → length bytes < 2 ^ 32 → IfOk r (Opens s bytes) → IfErr r (IsNotOpened s bytes) →
+pub opened_exactly : (s : Shape) (bytes : List ℕ) (r : Result OpenedArea StableFault) → length bytes < 2 ^ 32 → IfOk r (Opens s bytes) →
+    IfErr r (IsNotOpened s bytes) →
     (state : Dated Stable) → CanBeOpened s bytes state → IsOpenedAs state r
 opened_exactly s bytes (Ok o) few ok err state h =
     let same : ok.state ≡ state = state_once s bytes few state h.stands ok.state ok.stands in
@@ -253,5 +279,6 @@ opened_exactly s bytes (Err (faults.Damaged at)) few ok err state o = absurd (no
     not_damaged (inl h) = has_snapshot s bytes few state o.stands h.1
     not_damaged (inr h) = not_stopped s bytes few state o.stands at h
 opened_exactly s bytes (Err (faults.Snapshot f)) few ok err state o =
-    absurd (no_unread s err.snapshot_bytes f o.stands.first (in_front s bytes few state o.stands err.snapshot_bytes err.rest err.parts).0 o.stands.fits o.can o.stands.shape err.why)
+    absurd (no_unread s err.snapshot_bytes f o.stands.first (in_front s bytes few state o.stands err.snapshot_bytes err.rest err.parts).0 o.stands.fits o.can
+    o.stands.shape err.why)
 opened_exactly s bytes (Err faults.Memory) few ok err state o = refl

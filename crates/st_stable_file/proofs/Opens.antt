@@ -17,8 +17,10 @@ use Rattle.st_stable_file.specs.declared.file.OpenFault.TheVariants as faults
 use Rattle.st_stable_file.specs.declared.file.OpenedFile.{OpenedFile}
 
 -- a file whose area that counts is opened
-pub opens_file : (bytes : List ℕ) (wanted : Identity) (now : ℕ) (current : Current) (o : OpenedFile) → o.current ≡ current → (m : IsMadeFile bytes wanted current) →
-    ((n : IsMadeFile bytes wanted current) → Opens (shape_of wanted) (area_of current.second n.file) o.area) → o.area.end.moment ≤ now → OpensFile bytes wanted now o
+pub opens_file : (bytes : List ℕ) (wanted : Identity) (now : ℕ) (current : Current) (o : OpenedFile) → o.current ≡ current →
+    (m : IsMadeFile bytes wanted current) →
+    ((n : IsMadeFile bytes wanted current) → Opens (shape_of wanted) (area_of current.second n.file) o.area) → o.area.end.moment ≤ now →
+    OpensFile bytes wanted now o
 opens_file bytes wanted now current o e m g early =
     let both = subst (λ (c : Current). (n : IsMadeFile bytes wanted c) × Opens (shape_of wanted) (area_of c.second n.file) o.area) (sym e) (m, g m) in
     record { made = both.0; area = both.1; early = early }
@@ -45,10 +47,13 @@ module _ (bytes : List ℕ) (wanted : Identity) (now : ℕ) (read : Result (Opti
 
   -- what is opened of the area is this state
   pub opened_to : (current : Current) (r : Result OpenedFile OpenFault) → read ≡ found (Some current) →
-      ((m : IsMadeFile bytes wanted current) (s : Dated Stable) → CanBeOpened (shape_of wanted) (area_of current.second m.file) s → IsOpenedTo s r) → IsOpenedTo state r
+      ((m : IsMadeFile bytes wanted current) (s : Dated Stable) → CanBeOpened (shape_of wanted) (area_of current.second m.file) s → IsOpenedTo s r) →
+      IsOpenedTo state r
   opened_to current r e g =
       let same : current ≡ h.current = same_found current h.current (sym e ∙ exact h.current h.made) in
-      subst (λ (c : Current). (m : IsMadeFile bytes wanted c) (s : Dated Stable) → CanBeOpened (shape_of wanted) (area_of c.second m.file) s → IsOpenedTo s r) same g h.made state h.area
+      subst (λ (c : Current). (m : IsMadeFile bytes wanted c) (s : Dated Stable) → CanBeOpened (shape_of wanted) (area_of c.second m.file) s → IsOpenedTo s r)
+      same g h.made state h.area
 
-pub not_earlier : (now last : ℕ) (bytes : List ℕ) (wanted : Identity) (state : Dated Stable) → StandsForStable bytes wanted now state → last ≡ state.moment → now < last → ⊥
+pub not_earlier : (now last : ℕ) (bytes : List ℕ) (wanted : Identity) (state : Dated Stable) → StandsForStable bytes wanted now state → last ≡ state.moment →
+    now < last → ⊥
 not_earlier now last bytes wanted state h e l = let early = h.early in omega (arith, e, l, early)

@@ -26,12 +26,14 @@ long_enough x bytes n e size =
     )
 
 -- four bytes of length, the change, and more
-pub cut_out : (x : Change) (bytes front more first rest : List ℕ) (n : ℕ) → bytes ≡ framed x ++ 0 ∷ [] → n ≡ length (bytes_of x) → bytes ≡ front ++ more → length front ≡ n + 4 →
+pub cut_out : (x : Change) (bytes front more first rest : List ℕ) (n : ℕ) → bytes ≡ framed x ++ 0 ∷ [] → n ≡ length (bytes_of x) → bytes ≡ front ++ more →
+    length front ≡ n + 4 →
     front ≡ first ++ rest → length first ≡ 4 → rest ≡ bytes_of x
 cut_out x bytes front more first rest n e size parts long split four =
     let number = word32 (length (bytes_of x)) in
     let whole : (number ++ bytes_of x) ++ 0 ∷ [] ≡ front ++ more = sym (framed_is x (0 ∷ [])) ∙ (sym e ∙ parts) in
     let many : length (number ++ bytes_of x) ≡ length front = omega (arith, length-append number (bytes_of x), length-word (length (bytes_of x)), size, long) in
     let same : number ++ bytes_of x ≡ front =
-    sym (take_at (number ++ bytes_of x) (0 ∷ []) (length front) many) ∙ (ap (λ (l : List ℕ). take (length front) l) whole ∙ take_at front more (length front) refl) in
+    sym (take_at (number ++ bytes_of x) (0 ∷ []) (length front) many) ∙
+    (ap (λ (l : List ℕ). take (length front) l) whole ∙ take_at front more (length front) refl) in
     sym (drop_at first rest 4 four) ∙ (ap (λ (l : List ℕ). drop 4 l) (sym (same ∙ split)) ∙ drop_at number (bytes_of x) 4 (length-word (length (bytes_of x))))
