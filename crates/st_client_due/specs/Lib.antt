@@ -1,0 +1,3 @@
+-- During which moments a tick does something at a client.
+pub mod Spans
+pub mod ClientDue
