@@ -1,3 +1,10 @@
+pub mod Advances
+pub mod ClientOperations
+pub mod ClientWorks
+pub mod ClientTicks
+pub mod SpanMoments
+pub mod ClientSpans
+pub mod ClientTickLaw
 pub mod Moments
 pub mod Passes
 pub mod LockPasses

@@ -11,8 +11,6 @@ use Words.Server.{suspect_each, suspect_unless, suspecting, suspecting_on, take_
 use Words.Sessions.{session_of}
 use Words.serving.{Tick}
 use Words.bodies
-use Words.notes
-use Words.outputs
 use Rattle.std.proofs.lemmas.List.Folds.{list_any-append}
 use Rattle.st_lemmas.proofs.Tests.{any_same}
 use Rattle.st_due.specs.Moments.{has_come, is_due}

@@ -1,10 +1,18 @@
 //! Laws of ticks: from which moment on a tick does something.
 #![tactic(auto)]
 
+ghost use Rattle.st_client_due.specs.ClientDue.{ClientTicksAreDue};
 ghost use Rattle.st_due.specs.ServerDue.{TicksAreDue};
 
 /// At every state of a server and every moment: a tick before the moment that `server_due` tells
 /// leaves the state as it is and has no outputs, and a tick at that moment or later does not.
 pub fn ticks_are_due()
     ensures { TicksAreDue }
+{}
+
+/// At every state of a client and every moment: from then on, a tick before the moment that
+/// `client_due` tells leaves the state as it is and has no outputs, and a tick at that moment does
+/// not. If it tells none, no later tick does anything.
+pub fn client_ticks_are_due()
+    ensures { ClientTicksAreDue }
 {}
