@@ -5,6 +5,7 @@ pub mod ClientTicks
 pub mod SpanMoments
 pub mod ClientSpans
 pub mod ClientTickLaw
+pub mod IdleTicks
 pub mod Moments
 pub mod Passes
 pub mod LockPasses

@@ -3,6 +3,7 @@
 
 ghost use Rattle.st_client_due.specs.ClientDue.{ClientTicksAreDue};
 ghost use Rattle.st_due.specs.ServerDue.{TicksAreDue};
+ghost use Rattle.st_laws_due.specs.IdleTicks.{IdleTicksAreQuiet};
 
 /// At every state of a server and every moment: a tick before the moment that `server_due` tells
 /// leaves the state as it is and has no outputs, and a tick at that moment or later does not.
@@ -15,4 +16,10 @@ pub fn ticks_are_due()
 /// not. If it tells none, no later tick does anything.
 pub fn client_ticks_are_due()
     ensures { ClientTicksAreDue }
+{}
+
+/// In every world, an idle tick of a node, at whose clock nothing is due, changes nothing but the
+/// number of events and the client's flush steps, and nothing is observed.
+pub fn idle_ticks_are_quiet()
+    ensures { IdleTicksAreQuiet }
 {}
