@@ -6,6 +6,7 @@ pub mod SpanMoments
 pub mod ClientSpans
 pub mod ClientTickLaw
 pub mod IdleTicks
+pub mod DueServers
 pub mod Moments
 pub mod Passes
 pub mod LockPasses

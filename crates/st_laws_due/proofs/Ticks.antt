@@ -299,7 +299,7 @@ step_is s now = refl
 abbrev pub is_theft_due : ServerState → Stamp → Bool
 is_theft_due s now = list_any (is_over s.authority.wait now) s.authority.suspects
 
-moments_come : (s : ServerState) (now : Stamp) → is_due (server_due s) now ≡ (is_theft_due s now || is_later_due (turn s []) now)
+pub moments_come : (s : ServerState) (now : Stamp) → is_due (server_due s) now ≡ (is_theft_due s now || is_later_due (turn s []) now)
 moments_come s now =
     let a = thefts_at s.authority in
     let b = suspicions_at s.config s.authority s.locks in

@@ -1,1 +1,2 @@
 pub mod IdleTicks
+pub mod DueServers

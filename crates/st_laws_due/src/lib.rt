@@ -3,6 +3,7 @@
 
 ghost use Rattle.st_client_due.specs.ClientDue.{ClientTicksAreDue};
 ghost use Rattle.st_due.specs.ServerDue.{TicksAreDue};
+ghost use Rattle.st_laws_due.specs.DueServers.{DueServersKeepTime};
 ghost use Rattle.st_laws_due.specs.IdleTicks.{IdleTicksAreQuiet};
 
 /// At every state of a server and every moment: a tick before the moment that `server_due` tells
@@ -22,4 +23,10 @@ pub fn client_ticks_are_due()
 /// number of events and the client's flush steps, and nothing is observed.
 pub fn idle_ticks_are_quiet()
     ensures { IdleTicksAreQuiet }
+{}
+
+/// If the clock of a server is at most a gap past the moment that `server_due` tells, none of its
+/// times is over for longer than this gap: those of suspects, of demands and of first waits.
+pub fn due_servers_keep_time()
+    ensures { DueServersKeepTime }
 {}
