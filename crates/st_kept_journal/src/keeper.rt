@@ -1,5 +1,5 @@
 // A journal's file while a server runs.
-ghost use Rattle.std.specs.Prelude.{◌≡◌, ◌≢◌, ◌<◌, ◌≤◌, ◌+◌, [], ℕ, IfOk, OnErr, OnOk, drop, length};
+ghost use Rattle.std.specs.Prelude.{◌≡◌, ◌≢◌, ◌<◌, ◌≤◌, ◌+◌, [], ℕ, false, true, IfOk, OnErr, OnOk, drop, length};
 ghost use Rattle.std.specs.Result.{IsErrOf};
 ghost use Rattle.st_kept_journal.specs.Keeping as keeping;
 ghost use Rattle.st_kept_journal.specs.Keeping.{IsFullFor, IsTooLong, MovesSwitch, OpensGate, WritesGroup, WritesSnapshot};
@@ -106,14 +106,23 @@ impl JournalKeeper {
         }
     }
 
+    /// Whether a record of this length may wait: there is room for it after what waits, for its
+    /// gate and for the next one.
+    pub fn has_room(&self, len: u64) -> bool
+        ensures yes { result ≡ true → IsFullFor self.now len → ⊥ }
+        ensures no { result ≡ false → IsFullFor self.now len }
+    {
+        let room = self.room();
+        room >= 14 && room - 14 >= len
+    }
+
     /// One more record waits to be kept.
     pub fn add(&mut self, record_bytes: &[u8]) -> Result<(), KeepFault>
         ensures ok { OnOk result (self.new ≡ keeping.added self.old record_bytes.now) }
         ensures full { IsErrOf result Full → IsFullFor self.old (length record_bytes.now) }
         ensures err { OnErr result (self.new ≡ self.old) }
     {
-        let room = self.room();
-        if room < 14 || room - 14 < record_bytes.len() as u64 {
+        if !self.has_room(record_bytes.len() as u64) {
             return Err(KeepFault::Full);
         }
         let Ok(opened) = opened_of(self.alloc, record_bytes) else {
