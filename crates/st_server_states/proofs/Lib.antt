@@ -1,0 +1,4 @@
+pub mod NamesKept
+pub mod ExtentsKept
+pub mod StatesKept
+pub mod Formats

@@ -1,0 +1,2 @@
+-- What the law of `st_server_states` cites.
+pub mod States
