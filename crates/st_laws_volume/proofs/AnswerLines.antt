@@ -193,7 +193,7 @@ block_told w (seen.Suspected s c start) os v h = kept_told [] v refl h
 block_told w (seen.Stolen s c life) os v h = kept_told [] v refl h
 
 -- an open ask is as asked
-asked_there : (as_ : Asked) (u : Volume) (c : ClientId) (k : ℕ × Ask) → AreOf as_ u → Has k (in_volume u c).pending → world.numbered (as_ c) k.0 ≡ Some k.1
+pub asked_there : (as_ : Asked) (u : Volume) (c : ClientId) (k : ℕ × Ask) → AreOf as_ u → Has k (in_volume u c).pending → world.numbered (as_ c) k.0 ≡ Some k.1
 asked_there as_ u c k r i =
     let z = has_map ask_key (open_of u c) k i in
     let b : Pending = z.0 in

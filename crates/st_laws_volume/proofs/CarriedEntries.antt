@@ -127,7 +127,7 @@ cut_at (x ∷ es) zero e h q c = subst (λ (y : LogEntry). is_change y ≡ false
 cut_at (x ∷ es) (suc n) e h q c = cut_at es n e h.1 q c
 
 -- Lines keep whose the entries are, and add no cut of a client.
-owners_set : (es : List LogEntry) (n : ℕ) (e : LogEntry) (fate : Fate) → slice_get es n ≡ Some e →
+pub owners_set : (es : List LogEntry) (n : ℕ) (e : LogEntry) (fate : Fate) → slice_get es n ≡ Some e →
     map of_entry (set es n (record e { fate = fate })) ≡ map of_entry es
 owners_set [] n e fate q = refl
 owners_set (x ∷ es) zero e fate q = ap (λ (y : LogEntry). y.of ∷ map of_entry es) (sym (some_is q))
@@ -180,24 +180,24 @@ kept_lines v es (x ∷ xs) =
     record { owners = λ i o h. b.owners i o (a.owners i o h); cuts = λ h. b.cuts (a.cuts h) }
 
 -- A command that a client has just submitted.
-record IsFresh (c : ClientId) (site : WorldClient) (x : IssuedCommand) (d : DiskCommand) : Type 0 where
-  client : x.client ≡ c
-  life : x.life ≡ life_with site.node.state x.server
-  report : d.report ≡ reports.Open
-  effect : d.effected ≡ false
+pub record IsFresh (c : ClientId) (site : WorldClient) (x : IssuedCommand) (d : DiskCommand) : Type 0 where
+  pub client : x.client ≡ c
+  pub life : x.life ≡ life_with site.node.state x.server
+  pub report : d.report ≡ reports.Open
+  pub effect : d.effected ≡ false
 
-abbrev IsAt : World → ℕ → IssuedCommand → DiskCommand → Type 0
+abbrev pub IsAt : World → ℕ → IssuedCommand → DiskCommand → Type 0
 IsAt w k x d = (numbered w.commands k ≡ Some x) × (disks.command_at w.disks.commands k ≡ Some d)
 
 -- What outputs leave: the clients and the clocks, and as many more commands as are issued to the disks.
-record Says (c : ClientId) (site : WorldClient) (v u : World) : Type 0 where
-  more : ℕ
-  commands : length u.commands ≡ length v.commands + more
-  disks_too : length u.disks.commands ≡ length v.disks.commands + more
-  clocks : u.clocks ≡ v.clocks
-  clients : u.clients ≡ v.clients
-  longer : Longer v.commands u.commands
-  from : length v.commands ≡ length v.disks.commands → (k : ℕ) (x : IssuedCommand) (d : DiskCommand) → IsAt u k x d → IsAt v k x d ⊎ IsFresh c site x d
+pub record Says (c : ClientId) (site : WorldClient) (v u : World) : Type 0 where
+  pub more : ℕ
+  pub commands : length u.commands ≡ length v.commands + more
+  pub disks_too : length u.disks.commands ≡ length v.disks.commands + more
+  pub clocks : u.clocks ≡ v.clocks
+  pub clients : u.clients ≡ v.clients
+  pub longer : Longer v.commands u.commands
+  pub from : length v.commands ≡ length v.disks.commands → (k : ℕ) (x : IssuedCommand) (d : DiskCommand) → IsAt u k x d → IsAt v k x d ⊎ IsFresh c site x d
 
 one_more : (n m : ℕ) → n ≡ suc m → n ≡ m + 1
 one_more n m e = omega (arith, e)
@@ -285,7 +285,7 @@ says_then c site v u z a b =
     go n k x d (inl i) = a.from n k x d i
     go n k x d (inr f) = inr f
 
-says_all : (c : ClientId) (before : ClientState) (site : WorldClient) (os : List Output) (sc : WorldTurn) → site_of sc.world c ≡ Some site →
+pub says_all : (c : ClientId) (before : ClientState) (site : WorldClient) (os : List Output) (sc : WorldTurn) → site_of sc.world c ≡ Some site →
     Says c site sc.world (ev.client_says_all c before os sc).world
 unfolding ev.client_says_all
 says_all c before site [] sc own = says_nothing c site sc.world sc.world refl refl refl refl
@@ -299,7 +299,7 @@ disk_there : (cs : List IssuedCommand) (ds : List DiskCommand) → length cs ≡
 disk_there cs ds n zero x i = cc
 disk_there cs ds n (suc k) x i = get_there ds k (let b = get_below cs k x i in omega (arith, b, n))
 
-less_more : (a b x y m : ℕ) → a ≡ x + m → b ≡ y + m → a ≡ b → x ≡ y
+pub less_more : (a b x y m : ℕ) → a ≡ x + m → b ≡ y + m → a ≡ b → x ≡ y
 less_more a b x y m p q e = omega (arith, p, q, e)
 
 -- A step of a client.

@@ -350,10 +350,10 @@ marked_by it v x = by (which_crash x.event)
         (run_came rest (crashed v c) calm_rest))))
 
 -- Lives that are over.
-abbrev is_over : List LeaseLife → LogOwner → Bool
+abbrev pub is_over : List LeaseLife → LogOwner → Bool
 is_over ended o = list_any (λ l. is_of_life_over l 0 o) ended || (o.life.0 == 0)
 
-abbrev AreOver : List LeaseLife → List LogEntry → List Entry → Type 0
+abbrev pub AreOver : List LeaseLife → List LogEntry → List Entry → Type 0
 AreOver ended [] es = Unit {0}
 AreOver ended (o ∷ os) [] = Unit {0}
 AreOver ended (o ∷ os) (e ∷ es) = (is_change o ≡ true → e.crashed ≡ true → is_over ended o.of ≡ true) × AreOver ended os es
@@ -448,12 +448,12 @@ crash_stops w c sc happened site there =
         ap (λ (s : WorldClient). s.node.running) (some_is (sym q ∙ numbered_own w.clients c.0 (ev.stopped_site old) old e))
 
 -- What is carried.
-record OverHold (past : List Step) (t : Traced) (it : Witness) : Type 0 where
-  agree : LogHolds past t it
-  over : OnSome (λ v. AreOver t.world.ended t.world.log v.log) it.volume
-  fates : FatesHold t.world
+pub record OverHold (past : List Step) (t : Traced) (it : Witness) : Type 0 where
+  pub agree : LogHolds past t it
+  pub over : OnSome (λ v. AreOver t.world.ended t.world.log v.log) it.volume
+  pub fates : FatesHold t.world
 
-abbrev Given : Promise
+abbrev pub Given : Promise
 Given past x = TheReportTellsTheLog past x × (ChangesAreLocked past x × FatesHold x.after.world)
 
 after_over : (it : Witness) (x : Step) (o : Option Volume) → TheReportTellsTheLog [] x → ChangesAreLocked [] x → Adds x.before.world x.event x.after.world →
@@ -477,7 +477,7 @@ after_over it x (Some v) told locked adds ends a h =
     grown : Grown x.after.world w.log x.after.world.log
     grown = subst (Grown x.after.world w.log) told.entries (lines_grown x.after.world w.log w.log x.seen locked (grown_self x.after.world w.log))
 
-over_kept : IsKept Given OverHold
+pub over_kept : IsKept Given OverHold
 unfolding led_by
 over_kept past t e sc it f g h =
     let x : Step = step t e sc in
@@ -503,7 +503,7 @@ member p (l ∷ es) q = go (p l) refl q (member p es)
     go true f q r = (l, inl refl, f)
     go false f q r = let z = r q in (z.0, inr z.1, z.2)
 
-over_at : (ended : List LeaseLife) (os : List LogEntry) (es : List Entry) → AreOver ended os es → (n : ℕ) (o : LogEntry) (e : Entry) →
+pub over_at : (ended : List LeaseLife) (os : List LogEntry) (es : List Entry) → AreOver ended os es → (n : ℕ) (o : LogEntry) (e : Entry) →
     slice_get os n ≡ Some o → slice_get es n ≡ Some e → is_change o ≡ true → e.crashed ≡ true → is_over ended o.of ≡ true
 over_at ended [] es h n o e p q c k = cc p
 over_at ended (x ∷ os) [] h n o e p q c k = cc q
@@ -512,7 +512,7 @@ over_at ended (x ∷ os) (y ∷ es) h zero o e p q c k =
     ∙ h.0 (ap (λ (z : LogEntry). is_change z) (some_is p) ∙ c) (ap (λ (z : Entry). z.crashed) (some_is q) ∙ k)
 over_at ended (x ∷ os) (y ∷ es) h (suc n) o e p q c k = over_at ended os es h.1 n o e p q c k
 
-past_of : (w : World) → LivesHold w → (o : LogOwner) → is_over w.ended o ≡ true → IsPast w o
+pub past_of : (w : World) → LivesHold w → (o : LogOwner) → is_over w.ended o ≡ true → IsPast w o
 past_of w lives o h site a there runs place = go (list_any (λ l. is_of_life_over l 0 o) w.ended) refl h
   where
     go : (b : Bool) → list_any (λ l. is_of_life_over l 0 o) w.ended ≡ b → (b || (o.life.0 == 0)) ≡ true → o.life.0 < a.life.0
@@ -538,7 +538,7 @@ all_past past x h =
     (λ v k n o e p q c m. past_of x.after.world h.fates.lives o.of (over_at x.after.world.ended x.after.world.log v.log k n o e p q c m))
     (led_by (led_to past x) x).volume h.over
 
-over_begins : (k : Config) (clients servers disks blocks form : ℕ) →
+pub over_begins : (k : Config) (clients servers disks blocks form : ℕ) →
     OverHold [] (traced (fresh_world k clients servers disks blocks form))
     (begun (fresh_world k clients servers disks blocks form) (fresh_world k clients servers disks blocks form))
 unfolding fresh_world begun

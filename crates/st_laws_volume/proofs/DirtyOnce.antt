@@ -426,7 +426,7 @@ once_on past t e sc is s h =
     subst (λ (x : WorldTurn). AllOnce x.world) (sym z.1) (happens_once (counted t.world) (counted_fates t.world s.fates).lives h e z.0)
 
 -- At the start nothing is dirty.
-once_begins : (k : Config) (count servers d b form : ℕ) → AllOnce (fresh_world k count servers d b form)
+pub once_begins : (k : Config) (count servers d b form : ℕ) → AllOnce (fresh_world k count servers d b form)
 unfolding fresh_world cl.fresh_client
 once_begins k count servers d b form c site e a i =
     let from = has_map (fresh_site k servers) (numbers 1 count) site (numbered_has (map (fresh_site k servers) (numbers 1 count)) c.0 site e) in

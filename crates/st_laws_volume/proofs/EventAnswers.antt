@@ -84,8 +84,8 @@ silent_line : (os : List Observation) (o : Observation) → of_seen o ≡ [] →
 silent_line os o e = lines_last os o ∙ (ap (λ z. given_in_lines os ++ z) e ∙ append-nil (given_in_lines os))
 
 -- An output of a client.
-record After (old : List Observation) (more : List Given) (new : List Observation) : Type 0 where
-  is : given_in_lines new ≡ given_in_lines old ++ more
+pub record After (old : List Observation) (more : List Given) (new : List Observation) : Type 0 where
+  pub is : given_in_lines new ≡ given_in_lines old ++ more
 
 nothing_more : (os : List Observation) → After os [] os
 nothing_more os = record { is = sym (append-nil (given_in_lines os)) }
@@ -114,7 +114,7 @@ one_gives c before (outputs.Submit number at what) sc = submit_gives c (site_of 
 one_gives c before (outputs.Answer op answer) sc = record { is = lines_last sc.seen (seen.Answered c op answer) }
 one_gives c before (outputs.Note n) sc = note_gives c before n sc
 
-all_give : (c : ClientId) (before : ClientState) (os : List Output) (sc : WorldTurn) → After sc.seen (given_by c os) (ev.client_says_all c before os sc).seen
+pub all_give : (c : ClientId) (before : ClientState) (os : List Output) (sc : WorldTurn) → After sc.seen (given_by c os) (ev.client_says_all c before os sc).seen
 unfolding ev.client_says_all
 all_give c before [] sc = nothing_more sc.seen
 all_give c before (o ∷ os) sc =

@@ -15,19 +15,21 @@ use Words.Lines.{IsLogTold}
 use Words.Lookups.{any_last, some_is}
 use Words.Numbers.{get_below, get_has, get_there}
 use Words.Safety.{ChangesAreLocked, IsHead, Promise, Step, TheReportTellsTheLog, Throughout, is_failure_of, reports_failure, step, steps}
-use Words.Tables.{and_both, and_true}
+use Words.Tables.{and_both, and_true, has_map_in}
 use Words.Truth.{below_or_not, client_is, clash, file_is, none_not_some}
 use Words.World as world
 use Words.World.{World, WorldClient, fresh_world, issued_of, numbered, site_of}
 use Rattle.st_base.specs.declared.config.Config.{Config}
 use Rattle.st_rules.specs.declared.log.Change.{Change}
 use Rattle.st_rules.specs.Admissible as adm
-use Rattle.st_rules.specs.History.{Traced, traced}
+use Rattle.st_rules.specs.History.{Traced, traced, traced_after}
 use Rattle.st_lemmas.proofs.Marks.{of_entry}
 use Rattle.st_lemmas.proofs.Steps.{step_happens}
 use Rattle.st_promises.specs.Safe.{EveryRunIsSafe, IsSafeRun}
 use Rattle.st_laws_pages.specs.Asks.Law.{PlacesHold}
+use Rattle.st_laws_steps.specs.Lives.Lives.{owner_of}
 use Rattle.st_laws_pages.specs.Disks.Folds.{owner_at}
+use Rattle.st_laws_pages.specs.Disks.Obligations.{FatesHold}
 use Rattle.st_laws_pages.specs.Disks.Runs.{PagesAfter}
 use Rattle.st_laws_pages.specs.Disks.World.{PagesHold}
 use Rattle.st_laws_pages.specs.Writes.Writes.{OpenHold}
@@ -35,7 +37,7 @@ use Rattle.st_laws_pages.proofs.Asks.Law.{places_law}
 use Rattle.st_laws_pages.proofs.Causes.Law.{Stand, fresh_places, fresh_stand, one_step}
 use Rattle.st_laws_pages.proofs.Disks.Effects.{report_finds}
 use Rattle.st_laws_pages.proofs.Writes.Law.{fresh_open, open_after}
-use Rattle.st_laws_volume.specs.FateMarks.{AreRemembered, FailedWritesAreRemembered, is_crash_of, is_crashed_life}
+use Rattle.st_laws_volume.specs.FateMarks.{AreRemembered, FailedWritesAreRemembered}
 use Rattle.st_laws_volume.specs.Logs.{InEveryRun, IsLogOf, IsSame, ask_of, fate_of}
 use Rattle.st_laws_volume.specs.Options.{OnSome}
 use Rattle.st_laws_volume.specs.Seen.{failure, failure_of, failure_told, of_event}
@@ -43,15 +45,17 @@ use Rattle.st_laws_volume.specs.Witness.{Witness, begun, if_told, led_by, of_del
 use Rattle.st_laws_volume.proofs.Carried.{IsKept, Led, carried}
 use Rattle.st_laws_volume.proofs.CarriedEntries.{EntriesCarried, Longer, entries_kept, event_owned}
 use Rattle.st_laws_volume.proofs.FailedWrites.{fresh_carried}
-use Rattle.st_laws_volume.proofs.FailureEntries.{Back, IsBack, fails_here, kept_at, lines_back, spares}
+use Rattle.st_laws_volume.proofs.EventClients.{event_clients}
+use Rattle.st_laws_volume.proofs.FailureEntries.{Back, IsBack, fails_carried, fails_here, kept_at, lines_back, spares}
 use Rattle.st_laws_volume.proofs.FailureLives.{Ordered, PresentOf, ordered_kept, present}
 use Rattle.st_laws_volume.proofs.FailureWrites.{IsOf, LastOf, last_of, listed, touched}
-use Rattle.st_laws_volume.proofs.FateCrashes.{Adds, Grown, event_adds, grown_self, lines_grown}
+use Rattle.st_laws_volume.proofs.FateCrashes.{Grown, grown_self, lines_grown}
 use Rattle.st_laws_volume.proofs.FateKeeps.{AllKeep, LogKept, is_unfailed, run_keeps}
 use Rattle.st_laws_volume.proofs.LogEntries.{AtBoth, same_at}
 use Rattle.st_laws_volume.proofs.LogLines.{numbered_suc, one_step as one_volume_step, run_then}
 use Rattle.st_laws_volume.proofs.Logs.{LogHolds, log_begins, log_kept}
 use Rattle.st_laws_volume.proofs.Options.{on_if, on_map, on_more, on_then}
+use Rattle.st_laws_volume.proofs.PresentLives.{Before, present_before}
 use Rattle.st_laws_volume.proofs.ReadPages.{throughout_both, throughout_more}
 use Rattle.st_laws_volume.proofs.StepKinds.{both_inside, delivery_inside, is_inside, lines_inside}
 use Rattle.st_volume.specs.declared.step.VolumeStep.{VolumeStep}
@@ -83,17 +87,17 @@ unfailed_then (x ∷ xs) ys p q =
     and_both (is_unfailed x) (list_all is_unfailed (xs ++ ys)) b.0 (unfailed_then xs ys b.1 q)
 
 -- an event is the failed report of a command, or of none
-abbrev FailsOne : Event → Type 0
+abbrev pub FailsOne : Event → Type 0
 FailsOne e = (k : ℕ) × (e ≡ events.Report k false)
 
-abbrev FailsNone : World → Event → Type 0
+abbrev pub FailsNone : World → Event → Type 0
 FailsNone w e = (list_all is_unfailed (of_event w e) ≡ true) × ((k : ℕ) → is_failure_of k e ≡ false)
 
 no_last : (b : Bool) → (b && false) ≡ false
 no_last true = refl
 no_last false = refl
 
-which_fails : (w : World) (e : Event) → FailsOne e ⊎ FailsNone w e
+pub which_fails : (w : World) (e : Event) → FailsOne e ⊎ FailsNone w e
 unfolding of_event
 which_fails w (events.Report k false) = inl (k, refl)
 which_fails w (events.Report k true) = inr (refl, λ j. no_last (k == j))
@@ -122,7 +126,7 @@ pub record FailuresStand (past : List Step) (t : Traced) : Type 0 where
   pub ordered : Ordered t.world.log
   pub reported : ReportedKnown past t.world
 
-unreported : (w : World) (k : ℕ) (e : Event) → e ≡ events.Report k false → disks.command w.disks k ≡ None → adm.refusal w e ≡ None → ⊥
+pub unreported : (w : World) (k : ℕ) (e : Event) → e ≡ events.Report k false → disks.command w.disks k ≡ None → adm.refusal w e ≡ None → ⊥
 unfolding adm.refusal adm.refused_report
 unreported w k e q i r = no (ap (adm.refused_report w k false) (sym i) ∙ (ap (adm.refusal w) (sym q) ∙ r))
   where
@@ -137,7 +141,7 @@ owner_below es (suc n) c q = go (slice_get es n) refl q
     go None e h = cc h
     go (Some e) i h = let l = get_below es n e i in omega (arith, l)
 
-same_there : (o : LogEntry) (b : Option Entry) → AtBoth (Some o) b → (e : Entry) × (b ≡ Some e) × IsSame o e
+pub same_there : (o : LogEntry) (b : Option Entry) → AtBoth (Some o) b → (e : Entry) × (b ≡ Some e) × IsSame o e
 same_there o None s = absurd s
 same_there o (Some e) s = (e, refl, s)
 
@@ -152,15 +156,37 @@ place_test x f p (changes.Write bytes) q = refl
 place_test x f p (changes.Patch at bytes) q = refl
 place_test x f p changes.Cut q = cc q
 
--- An entry before an event after which it is pending.
-record Was (w f : World) (v : Volume) (n : ℕ) (p : LogEntry) (x : IssuedCommand) : Type 0 where
+-- A write reaches an entry of its page: the one that it carried, or a pending one before it.
+abbrev pub Reaches : LogEntry → ℕ → Carried → Type 0
+Reaches o index y = ((o.fate ≡ fates.Pending) × (index ≤ y.index)) ⊎ (index ≡ y.index)
+
+-- An entry of a present life remembers the last write of its page by that life, if this write reached it and was reported failed. The same instance of its
+-- client submitted this write.
+abbrev pub IsMarked : List Step → World → ℕ → LogEntry → Entry → Type 0
+IsMarked past w index o e =
+    (p : PresentOf w o.of) (x : IssuedCommand) (y : Carried) → is_change o ≡ true → numbered w.commands (last_write w.commands o.of) ≡ Some x →
+    x.carries ≡ Some y → Reaches o index y → list_any (reports_failure (last_write w.commands o.of)) past ≡ true →
+    (e.failed ≡ x.number) × (x.starts ≡ p.site.starts)
+
+abbrev pub AreMarked : List Step → World → Volume → Type 0
+AreMarked past w v =
+    (n : ℕ) (o : LogEntry) (e : Entry) → slice_get w.log n ≡ Some o → slice_get v.log n ≡ Some e → IsMarked past w (n + 1) o e
+
+reached_index : (o : LogEntry) (index : ℕ) (y : Carried) → Reaches o index y → index ≤ y.index
+reached_index o index y (inl r) = r.1
+reached_index o index y (inr r) = omega (arith, r)
+
+-- An entry before an event after which its life is present.
+record Was (w f : World) (v : Volume) (n : ℕ) (p : LogEntry) (now : PresentOf f p.of) (x : IssuedCommand) (y : Carried) : Type 0 where
   o : LogEntry
   at : slice_get w.log n ≡ Some o
   entry : Entry
   there : slice_get v.log n ≡ Some entry
   same : IsSame o entry
-  pending : o.fate ≡ fates.Pending
-  spared : is_crashed_life w.ended o.of ≡ false
+  change : is_change o ≡ true
+  reaches : Reaches o (n + 1) y
+  present_ : PresentOf w o.of
+  starts : present_.site.starts ≡ now.site.starts
   last : last_write w.commands o.of ≡ last_write f.commands p.of
   issued : numbered w.commands (last_write w.commands o.of) ≡ Some x
 
@@ -200,7 +226,7 @@ reported_kept past t e sc happened b k s = go (any_last (reports_failure k) (ste
     go (inr p) = let l = by (which_fails w e) p in let m = long in omega (arith, l, m)
 
 module _ (past : List Step) (t : Traced) (e : Event) (sc : WorldTurn) (happened : world_step t.world e ≡ Ok sc) (b : FailuresStand past t)
-    (told : IsLogTold sc.world t.world.log sc.seen) (v : Volume) (a : IsLogOf t.world.log v) (r : AreRemembered past t.world v) where
+    (told : IsLogTold sc.world t.world.log sc.seen) (v : Volume) (a : IsLogOf t.world.log v) (r : AreMarked past t.world v) where
   abbrev w : World
   w = t.world
 
@@ -213,21 +239,21 @@ module _ (past : List Step) (t : Traced) (e : Event) (sc : WorldTurn) (happened 
   back : Back w.log sc.world.log
   back = subst (Back w.log) told.entries (lines_back sc.world w.log sc.seen)
 
-  adds : Adds w e sc.world
-  adds = event_adds w e (λ c site at. (b.stand.fates.lives.lives.sites c site at).id) sc happened
-
-  was : (n : ℕ) (p : LogEntry) (x : IssuedCommand) (y : Carried) → slice_get sc.world.log n ≡ Some p → p.fate ≡ fates.Pending →
-      is_crashed_life sc.world.ended p.of ≡ false → last_write sc.world.commands p.of ≤ length w.commands →
-      numbered sc.world.commands (last_write sc.world.commands p.of) ≡ Some x → x.carries ≡ Some y → n + 1 ≤ y.index → Was w sc.world v n p x
-  was n p x y at pend spared low is carries l =
+  was : (n : ℕ) (p : LogEntry) (now : PresentOf sc.world p.of) (x : IssuedCommand) (y : Carried) → slice_get sc.world.log n ≡ Some p →
+      is_change p ≡ true → last_write sc.world.commands p.of ≤ length w.commands →
+      numbered sc.world.commands (last_write sc.world.commands p.of) ≡ Some x → x.carries ≡ Some y → Reaches p (n + 1) y →
+      Was w sc.world v n p now x y
+  was n p now x y at ch low is carries reach =
       record {
         o = o;
         at = here.1;
         entry = both.0;
         there = both.1;
         same = both.2;
-        pending = z.2.pending (ap (λ (k : LogEntry). k.fate) same ∙ pend);
-        spared = alive (is_crashed_life w.ended o.of) refl;
+        change = change;
+        reaches = reaches reach;
+        present_ = back_then.was;
+        starts = back_then.starts ∙ site_same;
         last = last;
         issued = ap (numbered w.commands) last ∙ old;
       }
@@ -239,7 +265,7 @@ module _ (past : List Step) (t : Traced) (e : Event) (sc : WorldTurn) (happened 
       high = owner_below w.log y.index (world.owner_carried x y) (b.entries.owned (last_write sc.world.commands p.of) x old y carries).0
 
       here : (o : LogEntry) × (slice_get w.log n ≡ Some o)
-      here = get_there w.log n (omega (arith, l, high))
+      here = let l = reached_index p (n + 1) y reach in get_there w.log n (omega (arith, l, high))
 
       o : LogEntry
       o = here.0
@@ -253,9 +279,25 @@ module _ (past : List Step) (t : Traced) (e : Event) (sc : WorldTurn) (happened 
       of : p.of ≡ o.of
       of = ap (λ (k : LogEntry). k.of) (sym same) ∙ z.2.of
 
-      alive : (c : Bool) → is_crashed_life w.ended o.of ≡ c → c ≡ false
-      alive true q = absurd (clash (ap (is_crashed_life sc.world.ended) of ∙ adds.1 (is_crash_of o.of) q) spared)
-      alive false q = refl
+      change : is_change o ≡ true
+      change = ap ev.changes_page (sym z.2.change ∙ ap (λ (k : LogEntry). k.change) same) ∙ ch
+
+      reaches : Reaches p (n + 1) y → Reaches o (n + 1) y
+      reaches (inl q) = inl (z.2.pending (ap (λ (k : LogEntry). k.fate) same ∙ q.0), q.1)
+      reaches (inr q) = inr q
+
+      now_of : PresentOf sc.world o.of
+      now_of = subst (PresentOf sc.world) of now
+
+      back_then : Before w e sc b.stand.fates.lives o.of now_of
+      back_then =
+          present_before w e sc b.stand.fates.lives o.of (has_map_in owner_of w.log o (get_has w.log n o here.1)) now_of
+          ((event_clients w e sc happened).sites o.of.client)
+
+      site_same : now_of.site.starts ≡ now.site.starts
+      site_same =
+          ap (λ (s : WorldClient). s.starts)
+          (some_is (sym now_of.there ∙ (ap (λ (k : LogOwner). site_of sc.world k.client) (sym of) ∙ now.there)))
 
       last : last_write w.commands o.of ≡ last_write sc.world.commands p.of
       last =
@@ -266,29 +308,30 @@ module _ (past : List Step) (t : Traced) (e : Event) (sc : WorldTurn) (happened 
       both = same_there o (slice_get v.log n) (subst (λ k. AtBoth k (slice_get v.log n)) here.1 (same_at w.log v.log n a.entries))
 
   abbrev After : Volume → Type 0
-  After u = AreRemembered (past ++ x' ∷ []) sc.world u
+  After u = AreMarked (past ++ x' ∷ []) sc.world u
 
   -- if nothing fails, entries keep what failed them
   unfailed : (its : List VolumeStep) → list_all is_unfailed its ≡ true → ((k : ℕ) → is_failure_of k e ≡ false) → OnSome After (run its v)
   unfailed its q none =
       on_more (LogKept (Unit {0}) v) After
-      (λ u k n p f at is x y pend spared iss carries l rep.
-      go u k n p f at is x y pend spared iss carries l (any_last (reports_failure (last_write sc.world.commands p.of)) x' past rep))
+      (λ u k n p f at is now x y ch iss carries l rep.
+      go u k n p f at is now x y ch iss carries l (any_last (reports_failure (last_write sc.world.commands p.of)) x' past rep))
       (run its v) (run_keeps (Unit {0}) its v (λ z. q))
     where
       go : (u : Volume) → AllKeep (Unit {0}) v.log u.log → (n : ℕ) (p : LogEntry) (f : Entry) → slice_get sc.world.log n ≡ Some p → slice_get u.log n ≡ Some f →
-          (x : IssuedCommand) (y : Carried) → p.fate ≡ fates.Pending → is_crashed_life sc.world.ended p.of ≡ false →
-          numbered sc.world.commands (last_write sc.world.commands p.of) ≡ Some x → x.carries ≡ Some y → n + 1 ≤ y.index →
+          (now : PresentOf sc.world p.of) (x : IssuedCommand) (y : Carried) → is_change p ≡ true →
+          numbered sc.world.commands (last_write sc.world.commands p.of) ≡ Some x → x.carries ≡ Some y → Reaches p (n + 1) y →
           (list_any (reports_failure (last_write sc.world.commands p.of)) past ≡ true) ⊎ (is_failure_of (last_write sc.world.commands p.of) e ≡ true) →
-          f.failed ≡ x.number
-      go u k n p f at is x y pend spared iss carries l (inr s) = absurd (clash s (none (last_write sc.world.commands p.of)))
-      go u k n p f at is x y pend spared iss carries l (inl s) =
-          let z : Was w sc.world v n p x = was n p x y at pend spared (b.reported (last_write sc.world.commands p.of) s) iss carries l in
+          (f.failed ≡ x.number) × (x.starts ≡ now.site.starts)
+      go u k n p f at is now x y ch iss carries l (inr s) = absurd (clash s (none (last_write sc.world.commands p.of)))
+      go u k n p f at is now x y ch iss carries l (inl s) =
+          let z : Was w sc.world v n p now x y =
+          was n p now x y at ch (b.reported (last_write sc.world.commands p.of) s) iss carries l in
           let m = kept_at (Unit {0}) v.log u.log k n z.entry z.there in
           let same : m.0 ≡ f = some_is (sym m.1 ∙ is) in
-          ap (λ (g : Entry). g.failed) (sym same)
-          ∙ (m.2.failed tt
-          ∙ r n z.o z.entry z.at z.there x y z.pending z.spared z.issued carries l (ap (λ j. list_any (reports_failure j) past) z.last ∙ s))
+          let h =
+          r n z.o z.entry z.at z.there z.present_ x y z.change z.issued carries z.reaches (ap (λ j. list_any (reports_failure j) past) z.last ∙ s) in
+          (ap (λ (g : Entry). g.failed) (sym same) ∙ (m.2.failed tt ∙ h.0), h.1 ∙ z.starts)
 
   -- The failed report of a command.
   module _ (k : ℕ) (d : DiskCommand) (is : disks.command_at w.disks.commands k ≡ Some d) (open_still : d.report ≡ reports.Open) where
@@ -296,11 +339,12 @@ module _ (past : List Step) (t : Traced) (e : Event) (sc : WorldTurn) (happened 
     Reported o = (last_write w.commands o ≡ k) ⊎ (list_any (reports_failure (last_write w.commands o)) past ≡ true)
 
     -- the entry is then failed by that number
-    First : Volume → Type 0
+    pub First : Volume → Type 0
     First z =
-        (n : ℕ) (o : LogEntry) (f : Entry) → slice_get w.log n ≡ Some o → slice_get v.log n ≡ Some f → IsSame o f → o.fate ≡ fates.Pending →
-        is_crashed_life w.ended o.of ≡ false → (x : IssuedCommand) (y : Carried) → numbered w.commands (last_write w.commands o.of) ≡ Some x →
-        x.carries ≡ Some y → n + 1 ≤ y.index → Reported o.of → (g : Entry) × (slice_get z.log n ≡ Some g) × (g.failed ≡ x.number)
+        (n : ℕ) (o : LogEntry) (f : Entry) → slice_get w.log n ≡ Some o → slice_get v.log n ≡ Some f → IsSame o f → (p : PresentOf w o.of) →
+        is_change o ≡ true → (x : IssuedCommand) (y : Carried) → numbered w.commands (last_write w.commands o.of) ≡ Some x →
+        x.carries ≡ Some y → Reaches o (n + 1) y → Reported o.of →
+        (g : Entry) × (slice_get z.log n ≡ Some g) × ((g.failed ≡ x.number) × (x.starts ≡ p.site.starts))
 
     abbrev OfNone : Type 0
     OfNone =
@@ -310,10 +354,10 @@ module _ (past : List Step) (t : Traced) (e : Event) (sc : WorldTurn) (happened 
     -- nothing is told: the command is of no entry of a client that runs
     untold : (z : Volume) → z.log ≡ v.log → OfNone → First z
     unfolding First
-    untold z same never n o f at there s pend spared x y iss carries l (inl q) =
-        absurd (never o.of y x (present w b.stand.fates o (get_has w.log n o at) pend spared) (ap (numbered w.commands) (sym q) ∙ iss) carries q)
-    untold z same never n o f at there s pend spared x y iss carries l (inr q) =
-        (f, ap (λ es. slice_get es n) same ∙ there, r n o f at there x y pend spared iss carries l q)
+    untold z same never n o f at there s p ch x y iss carries l (inl q) =
+        absurd (never o.of y x p (ap (numbered w.commands) (sym q) ∙ iss) carries q)
+    untold z same never n o f at there s p ch x y iss carries l (inr q) =
+        (f, ap (λ es. slice_get es n) same ∙ there, r n o f at there p x y ch iss carries l q)
 
     module _ (x2 : IssuedCommand) (issued : numbered w.commands k ≡ Some x2) where
       its : (o : LogOwner) (x : IssuedCommand) → numbered w.commands (last_write w.commands o) ≡ Some x → last_write w.commands o ≡ k → x ≡ x2
@@ -352,39 +396,51 @@ module _ (past : List Step) (t : Traced) (e : Event) (sc : WorldTurn) (happened 
 
         marked : (z : Volume) → z.log ≡ vpages.failed_up_to y2.index x2.client x2.number (y2.file, y2.page) v.log → First z
         unfolding First
-        marked z zl n o f at there s pend spared x y iss carries l side =
+        marked z zl n o f at there s p change x y iss carries l side =
             go (is_by_at x2.client (y2.file, y2.page) f) refl (below_or_not n y2.index)
           where
-            change : is_change o ≡ true
-            change = s.change (ap log.is_pending pend)
-
-            p : PresentOf w o.of
-            p = present w b.stand.fates o (get_has w.log n o at) pend spared
-
             Out : Type 0
-            Out = (g : Entry) × (slice_get z.log n ≡ Some g) × (g.failed ≡ x.number)
+            Out = (g : Entry) × (slice_get z.log n ≡ Some g) × ((g.failed ≡ x.number) × (x.starts ≡ p.site.starts))
+
+            -- the entry is open, or the one that the write carried
+            hit : is_by_at x2.client (y2.file, y2.page) f ≡ true → n < y2.index → y ≡ y2 → Reaches o (n + 1) y →
+                (g : Entry) × (slice_get (vpages.failed_up_to y2.index x2.client x2.number (y2.file, y2.page) v.log) n ≡ Some g) × (g.failed ≡ x2.number)
+            hit q m same (inl reach) =
+                fails_here y2.index x2.client x2.number (y2.file, y2.page) v.log n f there (omega (arith, m)) q
+                (ap is_open (s.fate ∙ ap fate_of reach.0))
+            hit q m same (inr reach) =
+                fails_carried y2.index x2.client x2.number (y2.file, y2.page) v.log n f there
+                (let i = reach ∙ ap (λ (c : Carried). c.index) same in omega (arith, i)) q
 
             fails : is_by_at x2.client (y2.file, y2.page) f ≡ true → n < y2.index → Out
             fails q m =
                 let z1 = page_at o f s change q in
                 let own : IsOf x2 y2 o.of =
                 touched past t b.stand b.opens b.entries b.ordered k x2 d y2 issued is open_still carried2 n o at change p m z1.client z1.file z1.page in
-                let same : x ≡ x2 = its o.of x iss (last_is o.of p own).last in
-                let g =
-                fails_here y2.index x2.client x2.number (y2.file, y2.page) v.log n f there (omega (arith, m)) q
-                (ap is_open (s.fate ∙ ap fate_of pend)) in
-                (g.0, ap (λ es. slice_get es n) zl ∙ g.1, g.2 ∙ ap (λ (c : IssuedCommand). c.number) (sym same))
+                let last : LastOf w.commands k x2 o.of p.site = last_is o.of p own in
+                let same : x ≡ x2 = its o.of x iss last.last in
+                let sameY : y ≡ y2 = some_is (sym carries ∙ (ap (λ (c : IssuedCommand). c.carries) same ∙ carried2)) in
+                let g = hit q m sameY l in (
+                  g.0,
+                  ap (λ es. slice_get es n) zl ∙ g.1,
+                  (
+                    g.2 ∙ ap (λ (c : IssuedCommand). c.number) (sym same),
+                    ap (λ (c : IssuedCommand). c.starts) same
+                        ∙ sym (eqb-true p.site.starts x2.starts (and_true p.site.node.running (p.site.starts == x2.starts) last.same).1),
+                  ),
+                )
 
             stays : (suc n ≤ y2.index → is_by_at x2.client (y2.file, y2.page) f ≡ true → ⊥) → Reported o.of → Out
             stays never (inr q) =
                 let i = spares y2.index x2.client x2.number (y2.file, y2.page) v.log n f there never in
-                (f, ap (λ es. slice_get es n) zl ∙ i, r n o f at there x y pend spared iss carries l q)
+                (f, ap (λ es. slice_get es n) zl ∙ i, r n o f at there p x y change iss carries l q)
             stays never (inl q) =
                 let same : x ≡ x2 = its o.of x iss q in
                 let sameY : y ≡ y2 = some_is (sym carries ∙ (ap (λ (c : IssuedCommand). c.carries) same ∙ carried2)) in
                 let own : IsOf x2 y2 o.of = last_of o.of w.commands k x2 y2 issued carried2 q in
                 let m = ap (λ (c : Carried). c.index) sameY in
-                absurd (never (omega (arith, l, m)) (at_page o f s change own.client own.file own.page))
+                let low = reached_index o (n + 1) y l in
+                absurd (never (omega (arith, low, m)) (at_page o f s change own.client own.file own.page))
 
             go : (c : Bool) → is_by_at x2.client (y2.file, y2.page) f ≡ c → (n < y2.index) ⊎ (y2.index ≤ n) → Out
             go true q (inl m) = fails q m
@@ -392,7 +448,7 @@ module _ (past : List Step) (t : Traced) (e : Event) (sc : WorldTurn) (happened 
             go false q m = stays (λ i h. clash h q) side
 
         -- the place of what it carried
-        place_here : (i : ℕ) → owner_at w.log i ≡ Some (world.owner_carried x2 y2) →
+        pub place_here : (i : ℕ) → owner_at w.log i ≡ Some (world.owner_carried x2 y2) →
             OnSome (λ z. z ≡ (y2.file, y2.page)) (option_and_then (λ (f : Entry). place_of f.what) (volume.numbered v.log i))
         place_here zero h = cc
         place_here (suc m) h =
@@ -452,7 +508,7 @@ module _ (past : List Step) (t : Traced) (e : Event) (sc : WorldTurn) (happened 
           go true q = told_first x2.carries refl
           go false q = untold v refl (no_instance (Some site) at (λ z i. ap (is_same_instance x2) (sym (some_is i)) ∙ q))
 
-    first_holds : (o : Option IssuedCommand) → issued_of w k ≡ o → OnSome First (run (failure_of w o) v)
+    pub first_holds : (o : Option IssuedCommand) → issued_of w k ≡ o → OnSome First (run (failure_of w o) v)
     unfolding run
     first_holds None q = untold v refl (λ o y x p i c z. none_not_some x (sym q ∙ i))
     first_holds (Some x2) q = at_site x2 q (site_of w x2.client) refl
@@ -472,8 +528,8 @@ module _ (past : List Step) (t : Traced) (e : Event) (sc : WorldTurn) (happened 
         run_then After (failure_of w (issued_of w k)) rest v
         (on_more First (λ z. OnSome After (run rest z))
         (λ z f. on_more (LogKept (Unit {0}) z) After
-        (λ y m n p g at there x c pend spared iss carries l rep.
-        go z f y m n p g at there x c pend spared iss carries l (any_last (reports_failure (last_write sc.world.commands p.of)) x' past rep))
+        (λ y m n p g at there now x c ch iss carries l rep.
+        go z f y m n p g at there now x c ch iss carries l (any_last (reports_failure (last_write sc.world.commands p.of)) x' past rep))
         (run rest z) (run_keeps (Unit {0}) rest z (λ i. u)))
         (run (failure_of w (issued_of w k)) v) (first_holds (issued_of w k) refl))
       where
@@ -492,16 +548,48 @@ module _ (past : List Step) (t : Traced) (e : Event) (sc : WorldTurn) (happened 
         below p (inr s) = subst (λ j. j ≤ length w.commands) (sym (by_event (last_write sc.world.commands p) s)) there_below
 
         go : (z : Volume) → First z → (y : Volume) → AllKeep (Unit {0}) z.log y.log → (n : ℕ) (p : LogEntry) (g : Entry) → slice_get sc.world.log n ≡ Some p →
-            slice_get y.log n ≡ Some g → (x : IssuedCommand) (c : Carried) → p.fate ≡ fates.Pending → is_crashed_life sc.world.ended p.of ≡ false →
-            numbered sc.world.commands (last_write sc.world.commands p.of) ≡ Some x → x.carries ≡ Some c → n + 1 ≤ c.index →
+            slice_get y.log n ≡ Some g → (now : PresentOf sc.world p.of) (x : IssuedCommand) (c : Carried) → is_change p ≡ true →
+            numbered sc.world.commands (last_write sc.world.commands p.of) ≡ Some x → x.carries ≡ Some c → Reaches p (n + 1) c →
             (list_any (reports_failure (last_write sc.world.commands p.of)) past ≡ true) ⊎ (is_failure_of (last_write sc.world.commands p.of) e ≡ true) →
-            g.failed ≡ x.number
-        go z f y m n p g at there x c pend spared iss carries l s =
-            let old : Was w sc.world v n p x = was n p x c at pend spared (below p.of s) iss carries l in
-            let h = f n old.o old.entry old.at old.there old.same old.pending old.spared x c old.issued carries l (sides old.o.of p.of old.last s) in
+            (g.failed ≡ x.number) × (x.starts ≡ now.site.starts)
+        go z f y m n p g at there now x c ch iss carries l s =
+            let old : Was w sc.world v n p now x c = was n p now x c at ch (below p.of s) iss carries l in
+            let h =
+            f n old.o old.entry old.at old.there old.same old.present_ old.change x c old.issued carries old.reaches (sides old.o.of p.of old.last s) in
             let after = kept_at (Unit {0}) z.log y.log m n h.0 h.1 in
             let same : after.0 ≡ g = some_is (sym after.1 ∙ there) in
-            ap (λ (j : Entry). j.failed) (sym same) ∙ (after.2.failed tt ∙ h.2)
+            (ap (λ (j : Entry). j.failed) (sym same) ∙ (after.2.failed tt ∙ h.2.0), h.2.1 ∙ old.starts)
+
+  -- After the first steps of the event: what failed before it is still remembered.
+  abbrev pub Marked0 : Volume → Type 0
+  Marked0 z =
+      (n : ℕ) (o : LogEntry) (f : Entry) → slice_get w.log n ≡ Some o → slice_get v.log n ≡ Some f → IsSame o f → (p : PresentOf w o.of) →
+      is_change o ≡ true → (x : IssuedCommand) (y : Carried) → numbered w.commands (last_write w.commands o.of) ≡ Some x →
+      x.carries ≡ Some y → Reaches o (n + 1) y → list_any (reports_failure (last_write w.commands o.of)) past ≡ true →
+      (g : Entry) × (slice_get z.log n ≡ Some g) × ((g.failed ≡ x.number) × (x.starts ≡ p.site.starts))
+
+  pub first_marked : OnSome Marked0 (run (of_event w e) v)
+  unfolding of_event First
+  first_marked = go (which_fails w e)
+    where
+      report : (k : ℕ) → e ≡ events.Report k false → (o : Option DiskCommand) → disks.command w.disks k ≡ o → OnSome Marked0 (run (of_event w e) v)
+      report k q None i = absurd (unreported w k e q i (step_happens w e sc happened).0)
+      report k q (Some d) i =
+          subst (λ f. OnSome Marked0 (run (of_event w f) v)) (sym q)
+          (on_more
+          (First k d i (report_finds w k false d i (ap (adm.refusal w) (sym q) ∙ (step_happens w e sc happened).0)).unreported) Marked0
+          (λ z f n o g at there s p ch x y iss carries l rep. f n o g at there s p ch x y iss carries l (inr rep))
+          (run (failure_of w (issued_of w k)) v)
+          (first_holds k d i (report_finds w k false d i (ap (adm.refusal w) (sym q) ∙ (step_happens w e sc happened).0)).unreported (issued_of w k) refl))
+
+      go : FailsOne e ⊎ FailsNone w e → OnSome Marked0 (run (of_event w e) v)
+      go (inl (k, q)) = report k q (disks.command w.disks k) refl
+      go (inr (q, none)) =
+          on_more (LogKept (Unit {0}) v) Marked0
+          (λ z u n o f at there s p ch x y iss carries l rep.
+          let m = kept_at (Unit {0}) v.log z.log u n f there in
+          let h = r n o f at there p x y ch iss carries l rep in (m.0, m.1, (m.2.failed tt ∙ h.0, h.1)))
+          (run (of_event w e) v) (run_keeps (Unit {0}) (of_event w e) v (λ z. q))
 
   -- All steps of the event.
   remembered : (it : Witness) → OnSome After (run (steps_of it v x') v)
@@ -529,6 +617,7 @@ module _ (past : List Step) (t : Traced) (e : Event) (sc : WorldTurn) (happened 
 pub record FailuresHold (past : List Step) (t : Traced) (it : Witness) : Type 0 where
   pub log : LogHolds past t it
   pub stand : FailuresStand past t
+  pub carried : OnSome (AreMarked past t.world) it.volume
   pub marks : OnSome (AreRemembered past t.world) it.volume
 
 abbrev pub Known : Promise
@@ -536,15 +625,24 @@ Known past x =
     TheReportTellsTheLog past x
     × (ChangesAreLocked past x × (PagesHold x.after.world × (PlacesHold x.after.world × OpenHold x.after.world)))
 
-after_remembered : (it : Witness) (past : List Step) (t : Traced) (e : Event) (sc : WorldTurn) → world_step t.world e ≡ Ok sc → FailuresStand past t →
-    IsLogTold sc.world t.world.log sc.seen → (o : Option Volume) → OnSome (IsLogOf t.world.log) o → OnSome (AreRemembered past t.world) o →
-    OnSome (AreRemembered (past ++ step t e sc ∷ []) sc.world) (volume_after it (step t e sc) o)
-after_remembered it past t e sc f b told None a r = tt
-after_remembered it past t e sc f b told (Some v) a r =
-    on_then (AreRemembered (past ++ step t e sc ∷ []) sc.world) if_told (run (steps_of it v (step t e sc)) v)
-    (on_more (AreRemembered (past ++ step t e sc ∷ []) sc.world) (λ u. OnSome (AreRemembered (past ++ step t e sc ∷ []) sc.world) (if_told u))
-    (λ u k. on_if (AreRemembered (past ++ step t e sc ∷ []) sc.world) (u.lines == length u.log) (Some u) k) (run (steps_of it v (step t e sc)) v)
+after_marked : (it : Witness) (past : List Step) (t : Traced) (e : Event) (sc : WorldTurn) → world_step t.world e ≡ Ok sc → FailuresStand past t →
+    IsLogTold sc.world t.world.log sc.seen → (o : Option Volume) → OnSome (IsLogOf t.world.log) o → OnSome (AreMarked past t.world) o →
+    OnSome (AreMarked (past ++ step t e sc ∷ []) sc.world) (volume_after it (step t e sc) o)
+after_marked it past t e sc f b told None a r = tt
+after_marked it past t e sc f b told (Some v) a r =
+    on_then (AreMarked (past ++ step t e sc ∷ []) sc.world) if_told (run (steps_of it v (step t e sc)) v)
+    (on_more (AreMarked (past ++ step t e sc ∷ []) sc.world) (λ u. OnSome (AreMarked (past ++ step t e sc ∷ []) sc.world) (if_told u))
+    (λ u k. on_if (AreMarked (past ++ step t e sc ∷ []) sc.world) (u.lines == length u.log) (Some u) k) (run (steps_of it v (step t e sc)) v)
     (remembered past t e sc f b told v a r it))
+
+-- a pending entry of a life that no crash ended is of a present life
+marks_remembered : (past : List Step) (w : World) → FatesHold w → (o : Option Volume) → OnSome (IsLogOf w.log) o → OnSome (AreMarked past w) o →
+    OnSome (AreRemembered past w) o
+marks_remembered past w fates None a r = tt
+marks_remembered past w fates (Some v) a r =
+    λ n o e at there x y pend spared iss carries l rep.
+    let s = same_there o (slice_get v.log n) (subst (λ k. AtBoth k (slice_get v.log n)) at (same_at w.log v.log n a.entries)) in
+    (r n o e at there (present w fates o (get_has w.log n o at) pend spared) x y (s.2.change (ap log.is_pending pend)) iss carries (inl (pend, l)) rep).0
 
 pub failures_kept : IsKept Known FailuresHold
 unfolding led_by
@@ -554,8 +652,11 @@ failures_kept past t e sc it f g h =
     let left = one_step past t e sc f b.places b.stand in
     let lined = lines_grown sc.world t.world.log t.world.log sc.seen g.1.0 (grown_self sc.world t.world.log) in
     let grown : Grown sc.world t.world.log sc.world.log = subst (Grown sc.world t.world.log) g.0.entries lined in
+    let agree : LogHolds (past ++ step t e sc ∷ []) (traced_after e t sc) (led_by it (step t e sc)) = log_kept past t e sc it f g.0 h.log in
+    let marked : OnSome (AreMarked (past ++ step t e sc ∷ []) sc.world) (led_by it (step t e sc)).volume =
+    after_marked it past t e sc f b g.0 it.volume h.log h.carried in
     record {
-      log = log_kept past t e sc it f g.0 h.log;
+      log = agree;
       stand =
           record {
             stand = left.stand;
@@ -565,7 +666,8 @@ failures_kept past t e sc it f g h =
             ordered = ordered_kept sc.world t.world.log left.stand.fates.lives grown b.ordered;
             reported = reported_kept past t e sc f b;
           };
-      marks = after_remembered it past t e sc f b g.0 it.volume h.log h.marks;
+      carried = marked;
+      marks = marks_remembered (past ++ step t e sc ∷ []) sc.world left.stand.fates (led_by it (step t e sc)).volume agree marked;
     }
 
 fresh_ordered : (k : Config) (clients servers disks blocks form : ℕ) → Ordered (fresh_world k clients servers disks blocks form).log
@@ -591,6 +693,7 @@ failures_begin k clients servers disks blocks form =
             ordered = fresh_ordered k clients servers disks blocks form;
             reported = λ j q. cc q;
           };
+      carried = λ n o e at there. absurd (none_at [] n o refl at);
       marks = λ n o e at there. absurd (none_at [] n o refl at);
     }
 

@@ -515,7 +515,7 @@ module _ (past : List Step) (t : Traced) (e : Event) (sc : WorldTurn) (happened 
   silent : list_all tells_none sc.seen ≡ true
   silent = ap (λ (z : WorldTurn). list_all tells_none z.seen) (step_happens w e sc happened).1 ∙ quiet.event_silent (counted w) e calm
 
-  state_begins : of_delivery it.behind v w e ≡ [] → ((c : ClientId) → AllOpenFor w c sc.seen (told_all c (of_event w e) (in_volume v c))) →
+  pub state_begins : of_delivery it.behind v w e ≡ [] → ((c : ClientId) → AllOpenFor w c sc.seen (told_all c (of_event w e) (in_volume v c))) →
       OnSome (State [] sc.seen w.log) (run first v)
   unfolding run
   state_begins none open_all =

@@ -1,7 +1,7 @@
 -- In every run each page that is dirty at a client whose lease is over has a command that failed.
 use Rattle.st_lemmas.proofs.Words
 use Words.{◌≡◌, ◌≢◌, ◌≤◌, ◌<◌, ◌+◌, ◌⊎◌, ℕ, zero, suc, Bool, true, false, List, [], ◌∷◌, Option, Some, None, Ok, Err, refl, sym, ap, ◌∙◌, subst, inl, inr}
-use Words.{arith, if◌then◌else◌, Result, map, nat_le, nat_lt, leb-true, leb-false, le-leb, lt-ltb, unwrap_or, Config, ClientId, NodeId, ServerId, Stamp, Event, Note, Output, ClientInput, DiskCommand}
+use Words.{arith, find, if◌then◌else◌, list_any, Result, map, nat_le, nat_lt, leb-true, leb-false, le-leb, lt-ltb, unwrap_or, Config, ClientId, DirtyPage, NodeId, ServerId, Stamp, Event, Note, Output, ClientInput, DiskCommand}
 use Words.{ServerInput, StepRefusal, IssuedCommand, SentMessage}
 use Words.nodes
 use Words.events
@@ -12,7 +12,8 @@ use Words.serving
 use Words.Admissible as adm
 use Words.Client as cl
 use Words.ClientLease as lease
-use Words.ClientState.{Association, ClientSession}
+use Words.ClientPages as pages
+use Words.ClientState.{Association, ClientSession, is_at}
 use Words.Disks as disks
 use Words.Events as ev
 use Words.Events.{WorldTurn, counted, world_step}
@@ -26,7 +27,7 @@ use Words.World.{World, WorldClient, clock_of, fresh_site, fresh_world, issued_o
 use Words.Lists.{Has}
 use Words.Lookups.{some_is}
 use Words.Numbers.{numbered_below, numbered_has, numbered_other, numbered_own}
-use Words.Tables.{and_both, has_map, same_or_not}
+use Words.Tables.{and_both, found_at, has_map, same_or_not}
 use Words.Truth.{clash}
 use Rattle.st_rules.specs.Extents.{numbers}
 use Rattle.st_rules.specs.declared.node.StepRefusal.TheVariants.{Crashed}
@@ -34,6 +35,7 @@ use Rattle.st_rules.specs.declared.world.LeaseLife.{LeaseLife}
 use Rattle.st_lemmas.proofs.Steps.{step_happens}
 use Rattle.st_laws_steps.specs.Client.Losses.{is_ended}
 use Rattle.st_laws_steps.specs.Lives.Lives.{LivesHold}
+use Rattle.st_laws_steps.proofs.Lives.Associations.{own_found}
 use Rattle.st_laws_pages.specs.Asks.Law.{PlacesHold}
 use Rattle.st_laws_pages.specs.Disks.Obligations.{FatesHold}
 use Rattle.st_laws_pages.proofs.Asks.Law.{places_law}
@@ -50,9 +52,10 @@ use Rattle.st_laws_pages.proofs.Lives.Lasting.{Present, flush_parts}
 use Rattle.st_laws_pages.proofs.Lives.LifeSteps.{steps_so}
 use Rattle.st_laws_pages.proofs.Lives.Turning.{says_lives}
 use Rattle.st_laws_volume.specs.Logs.{InEveryRun}
-use Rattle.st_laws_volume.specs.LossMarks.{LateFailed, LatePagesHaveFailed}
+use Rattle.st_laws_volume.specs.LossMarks.{HasFailed, LateFailed, LatePagesHaveFailed}
 use Rattle.st_laws_volume.specs.Witness.{Witness}
 use Rattle.st_laws_volume.proofs.Carried.{IsGiven, given_in}
+use Rattle.st_laws_volume.proofs.LateWrites.{unwritten}
 
 -- A client's step: no lease of it is over then.
 module _ (w : World) (c : ClientId) (old site : WorldClient) (input : ClientInput) (there : site_of w c ≡ Some old)
@@ -100,7 +103,7 @@ module _ (w : World) (c : ClientId) (old site : WorldClient) (input : ClientInpu
       ended : is_ended y.node.state.config (clock_of w (nodes.Client d)) a.session ≡ true
       ended = ap (λ t. is_ended y.node.state.config t a.session) (sym (clock_same d)) ∙ over
 
-      own : d.0 ≡ c.0 → after ≡ y → (n : ℕ) × ((page.failed ≡ Some n) × (1 ≤ n))
+      own : d.0 ≡ c.0 → after ≡ y → HasFailed a page
       own z k =
           let j = subst (λ (s : WorldClient). Has a s.node.state.associations) (sym k) i in
           clash
@@ -108,7 +111,7 @@ module _ (w : World) (c : ClientId) (old site : WorldClient) (input : ClientInpu
           ∙ (ap (λ t. is_ended y.node.state.config t a.session) (sym (ap (λ n. clock_of w (nodes.Client (record { 0 = n }))) z)) ∙ ended))
           (ap (λ k. is_ended k now a.session) config ∙ going a j)
 
-      go : (d.0 ≡ c.0) ⊎ (d.0 ≢ c.0) → (n : ℕ) × ((page.failed ≡ Some n) × (1 ≤ n))
+      go : (d.0 ≡ c.0) ⊎ (d.0 ≢ c.0) → HasFailed a page
       go (inl z) = own z (some_is (sym (numbered_own w.clients c.0 after old there) ∙ ap (numbered (with_numbered c.0 after w.clients)) (sym z) ∙ its))
       go (inr n) =
           h d y (sym (numbered_other w.clients c.0 d.0 after (numbered_below w.clients c.0 old there).0 n) ∙ its) r a i ended ino p page q
@@ -168,7 +171,7 @@ crashed : (w : World) (c : ClientId) (site : WorldClient) → site_of w c ≡ So
 unfolding ev.crashes_client ev.marks cl.crash
 crashed w c site there h d y e r a i over ino p page q = go (own_or_other w c d site (ev.stopped_site site) y there e)
   where
-    go : (y ≡ ev.stopped_site site) ⊎ (numbered w.clients d.0 ≡ Some y) → (n : ℕ) × ((page.failed ≡ Some n) × (1 ≤ n))
+    go : (y ≡ ev.stopped_site site) ⊎ (numbered w.clients d.0 ≡ Some y) → HasFailed a page
     go (inl k) = absurd (no (sym (ap (λ (z : WorldClient). z.node.running) k) ∙ r))
     go (inr k) = h d y k r a i over ino p page q
 
@@ -176,7 +179,7 @@ started : (w : World) (c : ClientId) (site : WorldClient) → site_of w c ≡ So
 unfolding ev.starts_client cl.start
 started w c site there h d y e r a i over ino p page q = go (own_or_other w c d site (ev.started_site site) y there e)
   where
-    go : (y ≡ ev.started_site site) ⊎ (numbered w.clients d.0 ≡ Some y) → (n : ℕ) × ((page.failed ≡ Some n) × (1 ≤ n))
+    go : (y ≡ ev.started_site site) ⊎ (numbered w.clients d.0 ≡ Some y) → HasFailed a page
     go (inr k) = h d y k r a i over ino p page q
     go (inl k) =
         let z = has_map cl.started_association site.node.state.associations a (subst (λ (s : WorldClient). Has a s.node.state.associations) k i) in
@@ -200,13 +203,52 @@ advanced past w steps refused fates both h c site there runs a i over ino p page
     present : Present w l
     present = record { site = site; there = there; a = a; has = i; is = refl }
 
+    found : find (is_at a.server) site.node.state.associations ≡ Some a
+    found = own_found site.node.state.associations (fates.lives.lives.sites c site there).once a i
+
+    -- no write is outstanding
+    none : (s : ClientSession) → a.session ≡ Some s → is_ended site.node.state.config (clock_of w (nodes.Client c)) a.session ≡ false →
+        nat_le (lease.end_of site.node.state.config s.lease).0 (clock_of (ev.with_clocks steps w) (nodes.Client c)).0 ≡ true →
+        list_any pages.is_any_write a.store.commands ≡ false
+    none s e b o =
+        ap (λ (st : pages.Store). list_any pages.is_any_write st.commands) (sym store)
+        ∙ unwritten w steps refused c site there runs a.server (both.flush.servers c site there a i)
+        (ap (adm.reaches (clock_of w (nodes.Client c)) (adm.step_of c steps)) end_is
+        ∙ and_both (nat_lt (clock_of w (nodes.Client c)).0 (lease.end_of site.node.state.config s.lease).0)
+        (nat_le (lease.end_of site.node.state.config s.lease).0 ((clock_of w (nodes.Client c)).0 + adm.step_of c steps))
+        (lt-ltb (clock_of w (nodes.Client c)).0 (lease.end_of site.node.state.config s.lease).0 before)
+        (le-leb (lease.end_of site.node.state.config s.lease).0 ((clock_of w (nodes.Client c)).0 + adm.step_of c steps) later))
+        (ap (λ (st : pages.Store). cl.is_any st.pages.dirty) store ∙ any a.store.pages.dirty (found_at (pages.is_dirty_of ino p) a.store.pages.dirty page q).1)
+      where
+        store : cl.store_at (cl.association_with site.node.state a.server) ≡ a.store
+        store = ap cl.store_at found
+
+        end_is : world.present_end w a.server (Some site) ≡ Some (lease.end_of site.node.state.config s.lease)
+        end_is =
+            ap (λ z. lease.end_at site.node.state.config (cl.lease_at z)) found
+            ∙ ap (λ z. lease.end_at site.node.state.config (Rattle.std.specs.Prelude.option_map cl.lease_of_session z)) e
+
+        before : (clock_of w (nodes.Client c)).0 < (lease.end_of site.node.state.config s.lease).0
+        before =
+            leb-false (lease.end_of site.node.state.config s.lease).0 (clock_of w (nodes.Client c)).0
+            (sym (ap (is_ended site.node.state.config (clock_of w (nodes.Client c))) e) ∙ b)
+
+        later : (lease.end_of site.node.state.config s.lease).0 ≤ (clock_of w (nodes.Client c)).0 + adm.step_of c steps
+        later =
+            let z = leb-true (lease.end_of site.node.state.config s.lease).0 (clock_of (ev.with_clocks steps w) (nodes.Client c)).0 o in
+            let k = clock in omega (arith, z, k)
+
+        any : (xs : List DirtyPage) → Has page xs → cl.is_any xs ≡ true
+        any [] j = absurd j
+        any (x ∷ xs) j = refl
+
     was : (s : ClientSession) → a.session ≡ Some s → (late : Bool) →
         is_ended site.node.state.config (clock_of w (nodes.Client c)) a.session ≡ late →
         nat_le (lease.end_of site.node.state.config s.lease).0 (clock_of (ev.with_clocks steps w) (nodes.Client c)).0 ≡ true →
-        (n : ℕ) × ((page.failed ≡ Some n) × (1 ≤ n))
+        HasFailed a page
     was s e true b o = h c site there runs a i b ino p page q
     was s e false b o =
-        let x = dirty_failed past w steps refused fates both.flush l present reached ino p page q in (x.0, (x.1, x.2.first))
+        let x = dirty_failed past w steps refused fates both.flush l present reached ino p page q in ((x.0, (x.1, x.2.first)), none s e b o)
       where
         end : ℕ
         end = (lease.end_of site.node.state.config s.lease).0
@@ -229,7 +271,7 @@ advanced past w steps refused fates both h c site there runs a i over ino p page
             (lt-ltb (clock_of w (nodes.Client c)).0 end before) (le-leb end ((clock_of w (nodes.Client c)).0 + adm.step_of c steps) later)
 
     by : (o : Option ClientSession) → a.session ≡ o →
-        is_ended site.node.state.config (clock_of (ev.with_clocks steps w) (nodes.Client c)) a.session ≡ true → (n : ℕ) × ((page.failed ≡ Some n) × (1 ≤ n))
+        is_ended site.node.state.config (clock_of (ev.with_clocks steps w) (nodes.Client c)) a.session ≡ true → HasFailed a page
     by None e o = absurd (no (sym (ap (is_ended site.node.state.config (clock_of (ev.with_clocks steps w) (nodes.Client c))) e) ∙ o))
     by (Some s) e o =
         was s e (is_ended site.node.state.config (clock_of w (nodes.Client c)) a.session) refl
@@ -280,7 +322,8 @@ module _ (past : List Step) (w : World) (f : FatesHold w) (b : BothHold past w) 
           (told n ok d q (issued_of w (suc n)) refl)
 
   happens_late : (e : Event) → adm.refusal w e ≡ None → LateFailed (ev.happens w e).world
-  unfolding ev.happens ev.ticks ev.asks_at ev.delivers ev.delivers_to ev.loses_message ev.marks ev.effects ev.advances ev.crashes ev.crashes_client ev.crashes_server ev.starts ev.starts_client ev.starts_server
+  unfolding ev.happens ev.ticks ev.asks_at ev.delivers ev.delivers_to ev.loses_message ev.marks ev.effects ev.advances ev.crashes ev.crashes_client
+      ev.crashes_server ev.starts ev.starts_client ev.starts_server
   happens_late (events.Tick (nodes.Client c)) r = at_client c inputs.Tick (site_of w c) refl
   happens_late (events.Tick (nodes.Server s)) r = at_server w s serving.Tick (node_of w s) h
   happens_late (events.App c ask) r = go (site_of w c) refl
@@ -330,7 +373,8 @@ module _ (past : List Step) (w : World) (f : FatesHold w) (b : BothHold past w) 
       go (Some node) = h
 
 -- One step.
-late_on : (past : List Step) (t : Traced) (e : Event) (sc : WorldTurn) → world_step t.world e ≡ Ok sc → Stand past t → LateFailed t.world → LateFailed sc.world
+pub late_on : (past : List Step) (t : Traced) (e : Event) (sc : WorldTurn) → world_step t.world e ≡ Ok sc → Stand past t → LateFailed t.world →
+    LateFailed sc.world
 unfolding adm.refusal adm.refused_delivery adm.clocks_refused adm.flush_missed adm.refused_effect adm.refused_report world.node_of_place adm.missed_by
 late_on past t e sc is s h =
     let z = step_happens t.world e sc is in
@@ -338,19 +382,20 @@ late_on past t e sc is s h =
     (happens_late past (counted t.world) (counted_fates t.world s.fates) (counted_both past t.world s.both) h e z.0)
 
 -- At the start no client has a session.
-late_begins : (k : Config) (count servers d b form : ℕ) → LateFailed (fresh_world k count servers d b form)
+pub late_begins : (k : Config) (count servers d b form : ℕ) → LateFailed (fresh_world k count servers d b form)
 unfolding fresh_world cl.fresh_client
 late_begins k count servers d b form c site e r a i over ino p page q =
     let from = has_map (fresh_site k servers) (numbers 1 count) site (numbered_has (map (fresh_site k servers) (numbers 1 count)) c.0 site e) in
     let z = has_map cl.fresh_association (numbers 1 servers) a (subst (λ (s : WorldClient). Has a s.node.state.associations) from.2 i) in
     absurd
-    (no (sym (ap (λ (y : Association). is_ended site.node.state.config (clock_of (fresh_world k count servers d b form) (nodes.Client c)) y.session) z.2) ∙ over))
+    (no (sym (ap (λ (y : Association). is_ended site.node.state.config (clock_of (fresh_world k count servers d b form) (nodes.Client c)) y.session) z.2) ∙
+    over))
 
 -- In every run.
-record LateHold (past : List Step) (t : Traced) (it : Witness) : Type 0 where
-  stand : Stand past t
-  places : PlacesHold t.world
-  late : LateFailed t.world
+pub record LateHold (past : List Step) (t : Traced) (it : Witness) : Type 0 where
+  pub stand : Stand past t
+  pub places : PlacesHold t.world
+  pub late : LateFailed t.world
 
 LateToo : List Step → Step → Witness → Type 0
 LateToo past x it = LatePagesHaveFailed past x

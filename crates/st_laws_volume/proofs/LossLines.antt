@@ -117,7 +117,7 @@ module _ (past : List Step) (x : Step) where
   along_last c s [] o rows = refl
   along_last c s (y ∷ os) o rows = along_last c s os o (owed_behind (ask_of past x c) w c s rows y)
 
-  rows_last : (done : List Observation) (o : Observation) (c : ClientId) (s : ServerId) →
+  pub rows_last : (done : List Observation) (o : Observation) (c : ClientId) (s : ServerId) →
       RowsAt (done ++ o ∷ []) c s ≡ owed_behind (ask_of past x c) w c s (RowsAt done c s) o
   rows_last done o c s = along_last c s done o (owed past c s)
 
@@ -134,12 +134,12 @@ module _ (past : List Step) (x : Step) where
       go false e = e
 
   -- a line that isn't a loss and tells no lost pages leaves what is owed
-  abbrev is_plain : Observation → Bool
+  abbrev pub is_plain : Observation → Bool
   is_plain (seen.Lost c s life) = false
   is_plain (seen.Answered c op (answers.Lost rows)) = false
   is_plain o = true
 
-  plain_rows : (o : Observation) → is_plain o ≡ true → (c : ClientId) (s : ServerId) (rows : List LostPage) → owed_behind (ask_of past x c) w c s rows o ≡ rows
+  pub plain_rows : (o : Observation) → is_plain o ≡ true → (c : ClientId) (s : ServerId) (rows : List LostPage) → owed_behind (ask_of past x c) w c s rows o ≡ rows
   plain_rows (seen.Lost d t life) q c s rows = cc q
   plain_rows (seen.Answered d op (answers.Lost told)) q c s rows = cc q
   plain_rows (seen.Answered d op answer) q c s rows = refl
@@ -235,7 +235,7 @@ module _ (past : List Step) (x : Step) where
     line = seen.Answered d op (answers.Lost told)
 
     -- whose ask it is
-    ask_is : (a : Pending) → find (is_ask d op) u.pending ≡ Some a → (a.client ≡ d) × (ask_of past x d op ≡ Some a.ask)
+    pub ask_is : (a : Pending) → find (is_ask d op) u.pending ≡ Some a → (a.client ≡ d) × (ask_of past x d op ≡ Some a.ask)
     ask_is a q =
         let b = found_at (is_ask d op) u.pending a q in
         let k = and_true (volume.is_of_client d a) (a.op == op) b.0 in

@@ -140,10 +140,10 @@ module _ (past : List Step) (t : Traced) (e : Event) (sc : WorldTurn) (happened 
     abbrev start : List (ℕ × Ask)
     start = map key s.operations ++ coming r.input
 
-    calm : gives_fates e ≡ false
+    abbrev pub calm : gives_fates e ≡ false
     calm = step_calm w e c r.site r.input r.takes
 
-    abbrev State : List Observation → List Observation → List LogEntry → Volume → Type 0
+    abbrev pub State : List Observation → List Observation → List LogEntry → Volume → Type 0
     State = hard.State past t e sc happened it held later v a right marked met wait calm whole
 
     order : Ordered w c s r.input start sc.seen
@@ -158,12 +158,12 @@ module _ (past : List Step) (t : Traced) (e : Event) (sc : WorldTurn) (happened 
     IsWhole d f rows u = (nat_le 1024 (length rows) || not (list_any (is_left d f rows) u.log)) ≡ true
 
     -- what holds of such an answer
-    record Whole (d : ClientId) (op : ℕ) (rows : List LostRow) (u : Volume) : Type 0 where
-      file : FileId
-      is : world.numbered (as_ d) op ≡ Some (asks.Sync file)
-      some : (nat_lt 0 (length rows) && volume.are_rising rows) ≡ true
-      left : IsWhole d file rows u
-      waits_ : AllWait u
+    pub record Whole (d : ClientId) (op : ℕ) (rows : List LostRow) (u : Volume) : Type 0 where
+      pub file : FileId
+      pub is : world.numbered (as_ d) op ≡ Some (asks.Sync file)
+      pub some : (nat_lt 0 (length rows) && volume.are_rising rows) ≡ true
+      pub left : IsWhole d file rows u
+      pub waits_ : AllWait u
 
     abbrev WholeAt : VolumeStep → Volume → Type 0
     WholeAt (kinds.Answered d op (answers.Lost rows)) u = AllAsked w e as_ → Whole d op rows u
@@ -290,7 +290,7 @@ module _ (past : List Step) (t : Traced) (e : Event) (sc : WorldTurn) (happened 
             waits_ = st.wait_;
           }
 
-    whole_now : (done os : List Observation) (es : List LogEntry) (u : Volume) (d : ClientId) (op : ℕ) (rows : List LostRow) →
+    pub whole_now : (done os : List Observation) (es : List LogEntry) (u : Volume) (d : ClientId) (op : ℕ) (rows : List LostRow) →
         done ++ seen.Answered d op (answers.Lost rows) ∷ os ≡ sc.seen → IsLossTold past x' done (seen.Answered d op (answers.Lost rows)) →
         State done (seen.Answered d op (answers.Lost rows) ∷ os) es u → AllAsked w e as_ → Whole d op rows u
     whole_now done os es u d op rows q l st all = by_ask (ask_of past x' d op) refl l
@@ -339,7 +339,7 @@ module _ (past : List Step) (t : Traced) (e : Event) (sc : WorldTurn) (happened 
       unresulted true i =
           absurd (clash (each_passes waits u.pending h.waits_ b found.1) (ap (λ ask. not (volume.is_sync ask) || not (is_some b.result)) words ∙ ap not i))
 
-      told_whole : is_told_whole u b rows ≡ true
+      pub told_whole : is_told_whole u b rows ≡ true
       told_whole =
           and_both (volume.is_sync b.ask && not (is_some b.result))
           ((nat_lt 0 (length rows) && volume.are_rising rows) &&

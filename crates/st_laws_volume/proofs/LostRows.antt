@@ -14,11 +14,11 @@ use Rattle.st_laws_volume.proofs.LossRows.{RowOf, listed, row_of, told_or_owed}
 use Rattle.st_volume.specs.Volume.{are_rising}
 
 -- Numbers that rise.
-abbrev Above : ℕ → List ℕ → Type 0
+abbrev pub Above : ℕ → List ℕ → Type 0
 Above n [] = Unit {0}
 Above n (m ∷ ms) = (n < m) × Above n ms
 
-abbrev Rising : List ℕ → Type 0
+abbrev pub Rising : List ℕ → Type 0
 Rising [] = Unit {0}
 Rising (n ∷ ns) = Above n ns × Rising ns
 
@@ -60,7 +60,7 @@ rising_ordered [] = tt
 rising_ordered (k ∷ ks) = rising_among k (in_order ks) (rising_ordered ks)
 
 -- Rows by rising page.
-abbrev pages_of : List LostPage → List ℕ
+abbrev pub pages_of : List LostPage → List ℕ
 pages_of rows = map page_number rows
 
 -- what is found of rising numbers, each of which is a row's page

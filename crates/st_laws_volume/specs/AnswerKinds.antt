@@ -30,6 +30,11 @@ abbrev pub is_disk_fault : VolumeStep → Bool
 is_disk_fault (kinds.Answered c op (answers.DiskFault number)) = true
 is_disk_fault it = false
 
+-- the client is told which of its pages were lost
+abbrev pub is_lost_answer : VolumeStep → Bool
+is_lost_answer (kinds.Answered c op (answers.Lost rows)) = true
+is_lost_answer it = false
+
 -- An answer other than `written` goes to a cut, to an ask for a name, or to an ask that has no result.
 abbrev pub ResultFits : VolumeStep → Volume → Type 0
 ResultFits (kinds.Answered c op answers.Written) v = ⊤

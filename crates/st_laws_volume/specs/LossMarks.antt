@@ -10,7 +10,7 @@ use Rattle.st_rules.specs.declared.client.LostPage.{LostPage}
 use Rattle.st_rules.specs.declared.log.LogEntry.{LogEntry}
 use Rattle.st_rules.specs.declared.log.LogOwner.{LogOwner}
 use Rattle.st_rules.specs.declared.pages.DirtyPage.{DirtyPage}
-use Rattle.st_rules.specs.ClientPages.{dirty_of, is_dirty_of, is_lost_of}
+use Rattle.st_rules.specs.ClientPages.{dirty_of, is_any_write, is_dirty_of, is_lost_of}
 use Rattle.st_rules.specs.ClientState.{Association, is_at}
 use Rattle.st_rules.specs.Events.{is_change}
 use Rattle.st_rules.specs.FlatLog.{counts}
@@ -34,7 +34,11 @@ pub record IsLate (w : World) (o : LogOwner) : Type 0 where
   pub page : DirtyPage
   pub dirty : dirty_of a.store.pages o.file.ino o.page ≡ Some page
 
--- Late pages have failed: a page that is dirty at a client whose lease is over has a command that failed, with a number from 1 up.
+-- Late pages have failed: a page that is dirty at a client whose lease is over has a command that failed, with a number from 1 up; and no write of its server's
+-- files is outstanding.
+abbrev pub HasFailed : Association → DirtyPage → Type 0
+HasFailed a d = ((n : ℕ) × ((d.failed ≡ Some n) × (1 ≤ n))) × (list_any is_any_write a.store.commands ≡ false)
+
 abbrev pub LateFailed : World → Type 0
 LateFailed w =
     (c : ClientId) (site : WorldClient)
@@ -45,7 +49,7 @@ LateFailed w =
     → is_ended site.node.state.config (clock_of w (nodes.Client c)) a.session ≡ true
     → (ino : ℕ) (p : PageNo) (d : DirtyPage)
     → dirty_of a.store.pages ino p ≡ Some d
-    → (n : ℕ) × ((d.failed ≡ Some n) × (1 ≤ n))
+    → HasFailed a d
 
 -- after every event
 abbrev pub LatePagesHaveFailed : Promise

@@ -3,9 +3,10 @@
 //! volume has taken the steps" don't say that it takes them.
 #![tactic(auto)]
 
-ghost use Rattle.st_laws_volume.specs.AnswerKinds.{FilesAreAnsweredWithoutResults, LossesAreToldWhole, is_disk_fault, is_opsfull, is_quiesced, is_uncertain};
+ghost use Rattle.st_laws_volume.specs.AnswerKinds.{FilesAreAnsweredWithoutResults, LossesAreToldWhole, is_disk_fault, is_lost_answer, is_opsfull, is_quiesced, is_uncertain};
 ghost use Rattle.st_laws_volume.specs.AskedAsks.{AsksAreAsAsked};
 ghost use Rattle.st_laws_volume.specs.Asks.{AsksAgree};
+ghost use Rattle.st_laws_volume.specs.DirtyPages.{DirtyPagesWereChanged};
 ghost use Rattle.st_laws_volume.specs.Effects.{ChangesFindTheirFiles, ChangesTakeEffect, MappedFilesExist};
 ghost use Rattle.st_laws_volume.specs.Epochs.{EpochsAgree};
 ghost use Rattle.st_laws_volume.specs.FateMarks.{CrashedEntriesArePast, CrashesAreMarked, FailedWritesAreRemembered};
@@ -16,6 +17,7 @@ ghost use Rattle.st_laws_volume.specs.Laws.{RunsInParts, StepsShowTheEvent, TheS
 ghost use Rattle.st_laws_volume.specs.Logs.{InEveryRun, LogsAgree};
 ghost use Rattle.st_laws_volume.specs.LossMarks.{LatePagesHaveFailed, LossesAreMet, PagesAreOnce};
 ghost use Rattle.st_laws_volume.specs.Notices.{AsksHaveNoticed};
+ghost use Rattle.st_laws_volume.specs.OwedRows.{OwedRowsNameEntries};
 ghost use Rattle.st_laws_volume.specs.Reads.{PagesAgree, ReadsGiveThePages};
 ghost use Rattle.st_laws_volume.specs.Refusals.{GoneFilesStayGone, NoticesStay, RefusalsAreNoticed, RepliesStayNoticed};
 ghost use Rattle.st_laws_volume.specs.Requests.{RequestsAreForTheirAsks, RequestsFindNone, RequestsHaveAsks, RequestsHaveEffects, RequestsTakeEffectInOrder};
@@ -252,8 +254,25 @@ pub fn losses_are_told_whole()
     ensures { InEveryRun LossesAreToldWhole }
 {}
 
+/// In every run, after every event, each row that a client owes of a server names an entry of the
+/// volume, if it has taken all steps before: one of this client on the row's page, which the row's
+/// command carried, and which it failed to write. The client was not told of the entry, and hasn't
+/// crashed since it joined the log.
+pub fn owed_rows_name_entries()
+    ensures { InEveryRun OwedRowsNameEntries }
+{}
+
+/// In every run the volume takes each answer `lost`, if it has taken all steps before it: the
+/// answer goes to a sync that has no result, its rows rise by page, and each names an entry of
+/// which the client was not told. Unless they are 1,024, no dropped entry of the file by this
+/// client is left of which it was not told.
+pub fn lost_answers_are_taken()
+    ensures { InEveryRun (StepsAreTaken is_lost_answer) }
+{}
+
 /// In every run, after every event: each page that is dirty at a client whose lease is over has a
-/// command that failed. Its number is what will be owed of the page.
+/// command that failed, and no write of that server is outstanding there. The command's number is
+/// what will be owed of the page.
 pub fn late_pages_have_failed()
     ensures { InEveryRun LatePagesHaveFailed }
 {}
@@ -261,6 +280,12 @@ pub fn late_pages_have_failed()
 /// In every run, after every event: no page is dirty twice at a client.
 pub fn pages_are_once()
     ensures { InEveryRun PagesAreOnce }
+{}
+
+/// In every run each page that is dirty after an event, at a client that runs, was dirty before it
+/// in the same life of that client; or the event tells a change of the page by it.
+pub fn dirty_pages_were_changed()
+    ensures { InEveryRun DirtyPagesWereChanged }
 {}
 
 /// In every run, if a sync is answered `hard`, each page of its file that is dirty after that event
