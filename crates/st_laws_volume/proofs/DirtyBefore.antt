@@ -20,13 +20,15 @@ use Words.Truth.{clash}
 use Words.World as world
 use Words.World.{WorldClient, clock_of, fresh_world, site_of}
 use Rattle.st_rules.specs.History.{Traced, traced}
-use Rattle.st_lemmas.proofs.Contents.{Place_is}
+use Rattle.st_rules.specs.Keys.{same_client}
+use Rattle.st_lemmas.proofs.Contents.{Place_is, one_place}
+use Rattle.st_lemmas.proofs.Tables.{and_true}
 use Rattle.st_laws_steps.specs.Client.Client.{Change, Says, Operates, Answers, Greets, TellsLost, Begins, Follows, Learns, Forgets, Caches, Writes}
 use Rattle.st_laws_steps.specs.Client.Client.{ChangesPage, Reads, Submits, Changes, Still, Then}
 use Rattle.st_laws_steps.specs.Client.Losses.{Fit, Ends, Unknown, Passes, Hardens, Fails, is_ended, without}
 use Rattle.st_laws_steps.specs.Client.Inputs as taking
 use Rattle.st_laws_steps.specs.Client.Inputs.{Taken}
-use Rattle.st_laws_steps.specs.Lives.Lives.{LifeNext, LivesHold, NodeHolds}
+use Rattle.st_laws_steps.specs.Lives.Lives.{LifeNext, LivesHold, NodeHolds, Pairwise}
 use Rattle.st_laws_steps.proofs.Client.Asking.{changes_by_passes}
 use Rattle.st_laws_steps.proofs.Client.Losing.{Finished, changes_by_only, finish_is, is_done, rest_of}
 use Rattle.st_laws_steps.proofs.Client.Nexts.{Next, changes_next, dirty_put, failed_found, found_fewer}
@@ -117,7 +119,7 @@ module _ (now : Stamp) (s : ClientState) where
 
       at_page : (y : ℕ) (z : Bool) → ((f.ino == ino) && z) ≡ true → (((f.server.0 == t.here.server.0) && (f.ino == ino)) && z) ≡ true
       at_page y z k =
-          let b = Rattle.st_lemmas.proofs.Tables.and_true (f.ino == ino) z k in
+          let b = and_true (f.ino == ino) z k in
           and_both ((f.server.0 == t.here.server.0) && (f.ino == ino)) z
           (and_both (f.server.0 == t.here.server.0) (f.ino == ino) (eq-eqb f.server.0 t.here.server.0 (ap (λ (v : ServerId). v.0) own)) b.0) b.1
 
@@ -136,7 +138,7 @@ module _ (now : Stamp) (s : ClientState) where
         where
           turned : Place_is f.ino p ino q ≡ true → ((f.ino == ino) && (p.0 == q.0)) ≡ true
           turned k =
-              let b = Rattle.st_lemmas.proofs.Contents.one_place f.ino p ino q k in
+              let b = one_place f.ino p ino q k in
               and_both (f.ino == ino) (p.0 == q.0) (eq-eqb f.ino ino b.0) (eq-eqb p.0 q.0 (ap (λ (v : PageNo). v.0) b.1))
       go false z =
           from_more t.here t.out (t.out ++ outputs.Note n ∷ []) (record { more = outputs.Note n ∷ []; out = refl }) h ino q d
@@ -233,7 +235,7 @@ module _ (now : Stamp) (s : ClientState) where
       }) t f h
 
   -- the losses leave the pages of leases that aren't over
-  lost_from : (t : ClientTurn) → Rattle.st_laws_steps.specs.Lives.Lives.Pairwise (LostOrNot s.config now) s.associations t.state.associations →
+  lost_from : (t : ClientTurn) → Pairwise (LostOrNot s.config now) s.associations t.state.associations →
       EachFrom t.state.associations t.out
   lost_from t pairs b i ino p d e = go (pairs_back (LostOrNot s.config now) s.associations t.state.associations b pairs i)
     where
@@ -279,8 +281,8 @@ module _ (c : ClientId) (server : ServerId) (ino : ℕ) (p : PageNo) where
   one_line : (os : List Observation) (o : Observation) → lined o ≡ true → list_any lined (os ++ o ∷ []) ≡ true
   one_line os o q = any_right lined os (o ∷ []) (or_left (lined o) false q)
 
-  own : (b : Bool) → b ≡ true → (Rattle.st_rules.specs.Keys.same_client c c && b) ≡ true
-  own b q = and_both (Rattle.st_rules.specs.Keys.same_client c c) b (eq-eqb c.0 c.0 refl) q
+  own : (b : Bool) → b ≡ true → (same_client c c && b) ≡ true
+  own b q = and_both (same_client c c) b (eq-eqb c.0 c.0 refl) q
 
   note_lines : (before : ClientState) (n : Note) (sc : WorldTurn) → (list_any lined sc.seen ≡ true) ⊎ (notes_change server ino p n ≡ true) →
       list_any lined (ev.client_notes sc c before n).seen ≡ true

@@ -14,6 +14,7 @@ use Words.Safety.{Step}
 use Words.Tables.{and_both, and_true}
 use Words.World.{World, WorldClient, issued_of, numbered, site_of}
 use Rattle.st_rules.specs.History.{Traced}
+use Rattle.st_rules.specs.Lines.{IsLogTold}
 use Rattle.st_lemmas.proofs.Steps.{step_happens}
 use Rattle.st_laws_pages.proofs.Disks.Effects.{report_finds}
 use Rattle.st_laws_volume.specs.Logs.{IsLogOf}
@@ -131,7 +132,7 @@ which w (events.Start (nodes.Client c)) = inr (inl refl)
 which w (events.Start (nodes.Server s)) = inr (inl refl)
 
 module _ (past : List Step) (t : Traced) (e : Event) (sc : WorldTurn) (happened : world_step t.world e ≡ Ok sc) (b : FailuresStand past t)
-    (told : Rattle.st_rules.specs.Lines.IsLogTold sc.world t.world.log sc.seen) (v : Volume) (a : IsLogOf t.world.log v)
+    (told : IsLogTold sc.world t.world.log sc.seen) (v : Volume) (a : IsLogOf t.world.log v)
     (r : failing.AreMarked past t.world v) where
   abbrev w : World
   w = t.world

@@ -35,6 +35,7 @@ use Rattle.st_laws_pages.proofs.Disks.Opens.{OpensFrom, goes_effect, goes_report
 use Rattle.st_laws_pages.proofs.Lives.Lasting.{Flushed, flush_parts}
 use Rattle.st_laws_volume.proofs.CarriedEntries.{IsAt, IsFresh, Says, less_more, says_all}
 use Rattle.st_laws_volume.proofs.EventAnswers.{ByAsk, ByMessage, ByReport, ByTick, Stepping, TakesAt, all_give, given_by}
+use Rattle.std.specs.Prelude.{unwrap_or}
 
 -- A step of a client that runs, with its lines.
 pub record SiteStep (t : World) (sc : WorldTurn) (d : ClientId) : Type 0 where
@@ -194,7 +195,7 @@ module _ (t : World) (e : Event) where
     clients = fl.clients ∙ said.clients
 
     clock : now ≡ clock_of t (nodes.Client c)
-    clock = ap (λ ts. Rattle.std.specs.Prelude.unwrap_or {T = Stamp} (numbered ts c.0) (record { 0 = 0 })) clocks
+    clock = ap (λ ts. unwrap_or {T = Stamp} (numbered ts c.0) (record { 0 = 0 })) clocks
 
     step : SiteStep t sc c
     step =

@@ -19,6 +19,7 @@ use Rattle.st_laws_volume.proofs.CarriedEntries.{EntriesCarried, IsAt}
 use Rattle.st_laws_volume.proofs.FailureLives.{PresentOf}
 use Rattle.st_laws_volume.proofs.FailureWrites.{IsOf}
 use Rattle.st_volume.specs.Pages.{Entry, failed_up_to, failure_of, is_by_at, is_open}
+use Rattle.std.proofs.lemmas.Bool.{eqb-true}
 
 -- What a failed write leaves of one entry.
 pub data Left (i : ℕ) (c : ClientId) (number : ℕ) (x : FileId × PageNo) (n : ℕ) (f : Entry) : Entry → Type 0 where
@@ -26,7 +27,7 @@ pub data Left (i : ℕ) (c : ClientId) (number : ℕ) (x : FileId × PageNo) (n 
   Touched : suc n ≤ i → is_by_at c x f ≡ true → ((suc n ≡ i) ⊎ (is_open f.fate ≡ true)) → Left i c number x n f (record f { failed = number })
 
 zero_is : (n : ℕ) → (n == 0) ≡ true → n ≡ 0
-zero_is n q = Rattle.std.proofs.lemmas.Bool.eqb-true n 0 q
+zero_is n q = eqb-true n 0 q
 
 pub left_at : (i : ℕ) (c : ClientId) (number : ℕ) (x : FileId × PageNo) (es : List Entry) (n : ℕ) (f : Entry) → slice_get es n ≡ Some f →
     (g : Entry) × (slice_get (failed_up_to i c number x es) n ≡ Some g) × Left i c number x n f g

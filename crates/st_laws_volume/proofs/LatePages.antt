@@ -56,6 +56,7 @@ use Rattle.st_laws_volume.specs.LossMarks.{HasFailed, LateFailed, LatePagesHaveF
 use Rattle.st_laws_volume.specs.Witness.{Witness}
 use Rattle.st_laws_volume.proofs.Carried.{IsGiven, given_in}
 use Rattle.st_laws_volume.proofs.LateWrites.{unwritten}
+use Rattle.std.specs.Prelude.{option_map}
 
 -- A client's step: no lease of it is over then.
 module _ (w : World) (c : ClientId) (old site : WorldClient) (input : ClientInput) (there : site_of w c ≡ Some old)
@@ -226,7 +227,7 @@ advanced past w steps refused fates both h c site there runs a i over ino p page
         end_is : world.present_end w a.server (Some site) ≡ Some (lease.end_of site.node.state.config s.lease)
         end_is =
             ap (λ z. lease.end_at site.node.state.config (cl.lease_at z)) found
-            ∙ ap (λ z. lease.end_at site.node.state.config (Rattle.std.specs.Prelude.option_map cl.lease_of_session z)) e
+            ∙ ap (λ z. lease.end_at site.node.state.config (option_map cl.lease_of_session z)) e
 
         before : (clock_of w (nodes.Client c)).0 < (lease.end_of site.node.state.config s.lease).0
         before =
@@ -261,7 +262,7 @@ advanced past w steps refused fates both h c site there runs a i over ino p page
 
         ends : l.end ≡ Some (lease.end_of site.node.state.config s.lease)
         ends =
-            ap (λ z. lease.end_at w.config (Rattle.std.specs.Prelude.option_map cl.lease_of_session z)) e
+            ap (λ z. lease.end_at w.config (option_map cl.lease_of_session z)) e
             ∙ ap (λ k. Some (lease.end_of k s.lease)) (sym config)
 
         reached : ev.is_reached w steps l ≡ true

@@ -23,6 +23,7 @@ pub mod CutNotes
 pub mod CutsTold
 pub mod DirtyAfterHard
 pub mod DirtyBefore
+pub mod DirtyEntries
 pub mod DirtyOnce
 pub mod DiskFaults
 pub mod EntriesTold
@@ -83,6 +84,7 @@ pub mod OwedRows
 pub mod OwedSteps
 pub mod Parts
 pub mod PendingAlone
+pub mod PlaceCounts
 pub mod PresentLives
 pub mod QuietAnswers
 pub mod ReadAnswers

@@ -1,5 +1,6 @@
 -- A client's step tells each loss once, and each of a lease that was over before the step.
 use Rattle.st_lemmas.proofs.Words
+use Rattle.st_lemmas.proofs.Tables.{has_map_in}
 use Words.{◌≡◌, ℕ, Bool, true, false, ◌||◌, List, [], ◌∷◌, ◌++◌, Option, Some, None, refl, sym, ap, ◌∙◌, subst, inl, inr, if◌then◌else◌}
 use Words.{append_assoc, eq-eqb, list_all, list_any, map, AppAnswer, BlockAt, ClientId, Command, Life, ServerId, Stamp, Note, Output, Observation}
 use Words.notes
@@ -22,6 +23,8 @@ use Rattle.st_laws_steps.specs.Lives.Lives.{LivesHold, Once, ended_rows, lost_ro
 use Rattle.st_laws_pages.proofs.Lives.LifeSteps.{steps_so}
 use Rattle.st_laws_volume.proofs.EventClients.{SiteStep}
 use Rattle.st_laws_volume.proofs.LossLines.{is_loss_of}
+use Rattle.std.proofs.lemmas.Bool.{eqb-true}
+use Rattle.std.proofs.lemmas.List.{append-nil}
 
 -- The servers of the losses that lines tell, and that outputs note.
 abbrev of_line : Observation → List ℕ
@@ -33,7 +36,7 @@ told [] = []
 told (o ∷ os) = of_line o ++ told os
 
 told_last : (os : List Observation) (o : Observation) → told (os ++ o ∷ []) ≡ told os ++ of_line o
-told_last [] o = Rattle.std.proofs.lemmas.List.append-nil (of_line o)
+told_last [] o = append-nil (of_line o)
 told_last (x ∷ os) o = ap (λ z. of_line x ++ z) (told_last os o) ∙ sym (append_assoc (of_line x) (told os) (of_line o))
 
 told_both : (os ps : List Observation) → told (os ++ ps) ≡ told os ++ told ps
@@ -50,7 +53,7 @@ silent : (os : List Observation) (o : Observation) → of_line o ≡ [] → told
 silent os o q = told_last os o ∙ ap (λ z. told os ++ z) q
 
 nothing : (xs : List ℕ) → xs ≡ xs ++ []
-nothing xs = sym (Rattle.std.proofs.lemmas.List.append-nil xs)
+nothing xs = sym (append-nil xs)
 
 note_tells : (c : ClientId) (before : ClientState) (n : Note) (sc : WorldTurn) →
     told (ev.client_notes sc c before n).seen ≡ told sc.seen ++ noted c before (outputs.Note n)
@@ -112,7 +115,7 @@ module _ (c : ClientId) (s : ClientState) (now : Stamp) where
       go false q i r = more (r i)
 
   server_there : (n : ℕ) (al : List Association) → IsOver n al → Has n (map server_number al)
-  server_there n al z = subst (λ k. Has k (map server_number al)) z.its (Rattle.st_lemmas.proofs.Tables.has_map_in server_number al z.a z.has)
+  server_there n al z = subst (λ k. Has k (map server_number al)) z.its (has_map_in server_number al z.a z.has)
 
   rows_once : (al : List Association) → Once (map server_number al) → Once (map row_server (rows_lost c s now al))
   unfolding rows_lost row_lost
@@ -136,7 +139,7 @@ loss_there c s (o ∷ os) q = go (is_loss_of c s o) refl q (loss_there c s os)
   where
     its : (o : Observation) → is_loss_of c s o ≡ true → Has s.0 (of_line o)
     its (seen.Lost d t life) z =
-        inl (sym (Rattle.std.proofs.lemmas.Bool.eqb-true t.0 s.0 (and_true (same_client d c) (same_server t s) z).1))
+        inl (sym (eqb-true t.0 s.0 (and_true (same_client d c) (same_server t s) z).1))
     its o z = cc z
 
     go : (b : Bool) → is_loss_of c s o ≡ b → (b || list_any (is_loss_of c s) os) ≡ true → (list_any (is_loss_of c s) os ≡ true → Has s.0 (told os)) →

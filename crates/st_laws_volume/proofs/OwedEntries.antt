@@ -13,8 +13,9 @@ use Rattle.st_laws_volume.proofs.EntryEvents.{AllWere, Was, stayed}
 use Rattle.st_laws_volume.proofs.EntryMarks.{Alike, LogStays, map_at, stayed_at}
 use Rattle.st_laws_volume.proofs.FailureLives.{PresentOf}
 use Rattle.st_laws_volume.proofs.FailureTouches.{Shut}
-use Rattle.st_volume.specs.Pages.{Entry, is_by_at}
+use Rattle.st_volume.specs.Pages.{Entry, is_by_at, is_at}
 use Rattle.st_volume.specs.Volume.{Volume, tell}
+use Rattle.std.specs.Prelude.{map}
 
 -- A row and what it names: the failed command of an earlier life, by the instance that runs, and the entry that the command carried. No write of that life is
 -- unreported.
@@ -96,12 +97,12 @@ block_plain u z k =
     go n g (inr y) = inr y
 
 map_fwd : (g : Entry → Entry) (es : List Entry) (n : ℕ) (f : Entry) → slice_get es n ≡ Some f →
-    slice_get (Rattle.std.specs.Prelude.map g es) n ≡ Some (g f)
+    slice_get (map g es) n ≡ Some (g f)
 map_fwd g [] n f i = cc i
 map_fwd g (x ∷ es) zero f i = ap (λ y. Some (g y)) (some_is i)
 map_fwd g (x ∷ es) (suc n) f i = map_fwd g es n f i
 
-pub block_tells : (test : Entry → Bool) (u z : Volume) → z.log ≡ Rattle.std.specs.Prelude.map (tell test) u.log → Block test u z
+pub block_tells : (test : Entry → Bool) (u z : Volume) → z.log ≡ map (tell test) u.log → Block test u z
 block_tells test u z q =
     record {
       back = λ n g i. go n g (map_at (tell test) u.log n g (ap (λ es. slice_get es n) (sym q) ∙ i));
@@ -141,8 +142,8 @@ row_moved w v test u z b c s r row q =
       f = y.0;
       at = y.1;
       by =
-          ap (λ what. (c.0 == y.0.client.0) && Rattle.st_volume.specs.Pages.is_at (record { server = s; ino = r.ino }, r.page) what) y.2.what
-          ∙ (ap (λ (d : ClientId). (c.0 == d.0) && Rattle.st_volume.specs.Pages.is_at (record { server = s; ino = r.ino }, r.page) row.f.what) y.2.client
+          ap (λ what. (c.0 == y.0.client.0) && is_at (record { server = s; ino = r.ino }, r.page) what) y.2.what
+          ∙ (ap (λ (d : ClientId). (c.0 == d.0) && is_at (record { server = s; ino = r.ino }, r.page) row.f.what) y.2.client
           ∙ row.by);
       failed = y.2.failed ∙ row.failed;
       told = y.2.told ∙ (ap (λ k. row.f.told || k) q ∙ (plain_told row.f.told ∙ row.told));

@@ -27,6 +27,9 @@ use Words.World.{World, WorldClient, fresh_world, numbered, site_of}
 use Rattle.st_base.specs.declared.config.Config.{Config}
 use Rattle.st_base.specs.declared.rows.LostRow.{LostRow}
 use Rattle.st_rules.specs.History.{Traced, traced}
+use Rattle.st_rules.specs.Client.{association_with}
+use Rattle.st_rules.specs.ClientState.{is_at}
+use Rattle.st_rules.specs.Keys.{same_file, same_page}
 use Rattle.st_promises.specs.Losses.{AreLossesTold, IsLossTold, IsToldBy, IsToldTo, as_told, owed, owed_from, owed_along, owed_behind, owed_of_file, owes}
 use Rattle.st_promises.specs.Safe.{EveryRunIsSafe, IsSafeRun}
 use Rattle.st_laws_steps.specs.Lives.Lives.{LivesHold, owner_of}
@@ -40,10 +43,11 @@ use Rattle.st_laws_pages.proofs.Causes.Law.{one_step}
 use Rattle.st_laws_pages.proofs.Disks.Whole.{fates_law}
 use Rattle.st_laws_pages.proofs.Flush.Caring.{latest_stays}
 use Rattle.st_laws_pages.proofs.Flush.FlushSteps.{latest_owners}
+use Rattle.st_laws_pages.proofs.Causes.Commands.{latest_high}
 use Rattle.st_laws_volume.specs.AnswerKinds.{is_lost_answer, is_told_whole}
 use Rattle.st_laws_volume.specs.Asks.{AsksOf, HasAsksOf, at_site, in_volume}
 use Rattle.st_laws_volume.specs.DirtyPages.{WasDirty, is_change_of}
-use Rattle.st_laws_volume.specs.HardFiles.{HardFilesAreClean}
+use Rattle.st_laws_volume.specs.HardFiles.{HardFilesAreClean, is_page_at}
 use Rattle.st_laws_volume.specs.Logs.{InEveryRun, IsLogOf}
 use Rattle.st_laws_volume.specs.LossMarks.{AllOnce, AreMet, IsLate, LateFailed, LatePagesHaveFailed, PagesAreOnce}
 use Rattle.st_laws_volume.specs.Options.{OnSome}
@@ -64,7 +68,7 @@ use Rattle.st_laws_volume.proofs.CrashedLives.{AreOver, OverHold, over_begins, o
 use Rattle.st_laws_volume.proofs.DirtyBefore.{changed_by}
 use Rattle.st_laws_volume.proofs.DirtyOnce.{once_begins, pages_are_once}
 use Rattle.st_laws_volume.proofs.EntryEvents.{AllOwn, Was, mute_plain, own_steps, served_plain, stayed}
-use Rattle.st_laws_volume.proofs.EntryMarks.{Alike, LogStays, run_stays}
+use Rattle.st_laws_volume.proofs.EntryMarks.{Alike, LogStays, run_stays, is_plain}
 use Rattle.st_laws_volume.proofs.EventAnswers.{Stepping}
 use Rattle.st_laws_volume.proofs.EventClients as clients
 use Rattle.st_laws_volume.proofs.EventClients.{Crashes, OldOpen, NewOf, SiteNext, SiteStep, Starts, Stays, Steps, event_clients, is_mute}
@@ -93,16 +97,18 @@ use Rattle.st_laws_volume.proofs.Options.{on_if, on_more, on_then}
 use Rattle.st_laws_volume.proofs.OwedEntries.{AllRows, Apart, RowAt, Untold, block_plain, never, row_moved}
 use Rattle.st_laws_volume.proofs.OwedLines as owing
 use Rattle.st_laws_volume.proofs.OwedRows.{told_row}
-use Rattle.st_laws_volume.proofs.OwedSteps.{apart_on, fresh_on, goes_on, over_on, rows_on, told_on}
+use Rattle.st_laws_volume.proofs.OwedSteps.{apart_on, fresh_on, goes_on, over_on, rows_on, told_on, Goes}
 use Rattle.st_laws_volume.proofs.QuietAnswers.{step_calm}
 use Rattle.st_laws_volume.proofs.ReadPages.{throughout_both, throughout_more}
 use Rattle.st_laws_volume.proofs.SyncsWait.{AllWait}
+use Rattle.st_laws_volume.proofs.LostAnswers.{Whole}
 use Rattle.st_lemmas.proofs.Steps.{step_happens}
 use Rattle.st_volume.specs.declared.step.VolumeStep.{VolumeStep}
 use Rattle.st_volume.specs.declared.step.VolumeStep.TheVariants as kinds
 use Rattle.st_volume.specs.Pages.{Entry, is_by_at}
 use Rattle.st_volume.specs.Volume as volume
 use Rattle.st_volume.specs.Volume.{Pending, Volume, answered, answers_so, is_ask, is_lost_row, is_untold, run}
+use Rattle.std.specs.Prelude.{nat_le, option_and_then}
 
 -- Lines that change no page of a client leave its latest entries.
 not_zero : (n : ℕ) → 1 ≤ n → (0 == n) ≡ false
@@ -141,7 +147,7 @@ latest_on f d n ino p born (x ∷ xs) fs q =
     one (seen.Patched i c g q2 at bytes) h = latest_stays d file p fs _ h
     one (seen.CutAt i g q2) h =
         latest_stays d file p fs (log.hard_cut g q2)
-        (ap (λ b. b && (Rattle.st_rules.specs.Keys.same_file g file && Rattle.st_rules.specs.Keys.same_page q2 p)) (not_zero d.0 born))
+        (ap (λ b. b && (same_file g file && same_page q2 p)) (not_zero d.0 born))
     one (seen.Hardened i) h = latest_owners d file p fs (lines.fated fs i fates.Hard) (fated_owners fs i fates.Hard)
     one (seen.Dropped i cause) h = latest_owners d file p fs (lines.fated fs i (fates.Gone cause)) (fated_owners fs i (fates.Gone cause))
     one (seen.Sent k m) h = refl
@@ -180,8 +186,8 @@ other_unchanged c d n ino p non (o ∷ os) q =
         go true y = absurd (non (sym (client_is k d y) ∙ client_is k c z))
 
     one : (o : Observation) → mine c o ≡ true → is_change_of d n ino p o ≡ false
-    one (seen.Wrote i k f g bytes) z = apart k (Rattle.st_laws_volume.specs.HardFiles.is_page_at n ino p f g) z
-    one (seen.Patched i k f g at bytes) z = apart k (Rattle.st_laws_volume.specs.HardFiles.is_page_at n ino p f g) z
+    one (seen.Wrote i k f g bytes) z = apart k (is_page_at n ino p f g) z
+    one (seen.Patched i k f g at bytes) z = apart k (is_page_at n ino p f g) z
     one o z = refl
 
 mute_along : (asked : ℕ → Option Ask) (w : World) (c : ClientId) (s : ServerId) (os : List Observation) (rows : List LostPage) → list_all is_mute os ≡ true →
@@ -332,7 +338,7 @@ module _ (past : List Step) (t : Traced) (e : Event) (sc : WorldTurn) (happened 
           by (Starts old was stopped l) =
               absurd (clash row.runs (ap (λ (z : WorldClient). z.node.running) (some_is (sym row.there ∙ was)) ∙ stopped))
 
-      goes : Rattle.st_laws_volume.proofs.OwedSteps.Goes w e sc lives d next row.site row.there row.runs calm left.0
+      goes : Goes w e sc lives d next row.site row.there row.runs calm left.0
       goes = goes_on w e sc lives d next row.site row.there row.runs calm left.0 left.1
 
       shut : Shut sc.world d s row.x.life
@@ -341,18 +347,18 @@ module _ (past : List Step) (t : Traced) (e : Event) (sc : WorldTurn) (happened 
           by : OldOpen w k x2 d2 ⊎ NewOf sc.world x2 → ⊥
           by (inl (c2, at2, open2, what)) = row.shut k x2 c2 y2 at2 open2 carries client on life
           by (inr (site2, there2, life2)) =
-              place (Rattle.st_rules.specs.Client.association_with site2.node.state x2.server) refl
+              place (association_with site2.node.state x2.server) refl
             where
               mine : site_of sc.world d ≡ Some site2
               mine = ap (site_of sc.world) (sym client) ∙ there2
 
-              place : (o : Option Association) → Rattle.st_rules.specs.Client.association_with site2.node.state x2.server ≡ o → ⊥
+              place : (o : Option Association) → association_with site2.node.state x2.server ≡ o → ⊥
               place None q =
                   let z = ap (λ (l : Life). l.0) (sym life ∙ (life2 ∙ ap world.life_at q)) in
                   let born = row.born in omega (arith, z, born)
               place (Some b2) q =
                   let z = ap (λ (l : Life). l.0) (sym life ∙ (life2 ∙ ap world.life_at q)) in
-                  let found = Words.Tables.found_at (Rattle.st_rules.specs.ClientState.is_at x2.server) site2.node.state.associations b2 q in
+                  let found = Words.Tables.found_at (is_at x2.server) site2.node.state.associations b2 q in
                   let low =
                   row.over site2 mine b2 found.1 (ap (λ n. record { 0 = n }) (eqb-true b2.server.0 x2.server.0 found.0) ∙ on) in
                   omega (arith, z, low)
@@ -392,7 +398,7 @@ module _ (past : List Step) (t : Traced) (e : Event) (sc : WorldTurn) (happened 
 
       k : (k : LogEntry) × (slice_get w.log n ≡ Some k)
       k =
-          let high = Rattle.st_laws_pages.proofs.Causes.Commands.latest_high d (file_at b ino) p w.log in
+          let high = latest_high d (file_at b ino) p w.log in
           let z = lat0 in get_there w.log n (omega (arith, high, z))
 
       back : (q : LogEntry) × (slice_get sc.world.log n ≡ Some q) × IsBack k.0 q
@@ -476,16 +482,16 @@ module _ (past : List Step) (t : Traced) (e : Event) (sc : WorldTurn) (happened 
         (on_both (AllOwn w e v) (LogKept ⊥ v) (run (of_event w e) v) (own_steps past t e sc happened held.failures.stand whole v a carried)
         (run_keeps ⊥ (of_event w e) v (λ z. absurd z))))
       where
-        both : (xs ys : List VolumeStep) → list_all Rattle.st_laws_volume.proofs.EntryMarks.is_plain xs ≡ true →
-            list_all Rattle.st_laws_volume.proofs.EntryMarks.is_plain ys ≡ true → list_all Rattle.st_laws_volume.proofs.EntryMarks.is_plain (xs ++ ys) ≡ true
+        both : (xs ys : List VolumeStep) → list_all is_plain xs ≡ true →
+            list_all is_plain ys ≡ true → list_all is_plain (xs ++ ys) ≡ true
         both [] ys p q = q
         both (x ∷ xs) ys p q =
             let b =
-            and_true (Rattle.st_laws_volume.proofs.EntryMarks.is_plain x) (list_all Rattle.st_laws_volume.proofs.EntryMarks.is_plain xs) p in
-            and_both (Rattle.st_laws_volume.proofs.EntryMarks.is_plain x) (list_all Rattle.st_laws_volume.proofs.EntryMarks.is_plain (xs ++ ys)) b.0
+            and_true (is_plain x) (list_all is_plain xs) p in
+            and_both (is_plain x) (list_all is_plain (xs ++ ys)) b.0
             (both xs ys b.1 q)
 
-        plain_rest : list_all Rattle.st_laws_volume.proofs.EntryMarks.is_plain (of_delivery it.behind v w e ++ of_lines w sc.seen) ≡ true
+        plain_rest : list_all is_plain (of_delivery it.behind v w e ++ of_lines w sc.seen) ≡ true
         plain_rest = both (of_delivery it.behind v w e) (of_lines w sc.seen) (served_plain it.behind v w e) (mute_plain w sc.seen silent)
 
   -- A step of a client.
@@ -601,7 +607,7 @@ module _ (past : List Step) (t : Traced) (e : Event) (sc : WorldTurn) (happened 
           ap is_some (if_true (u.lines == length u.log) (volume.acts u (kinds.Answered d op (answers.Lost told))) None (eq-eqb u.lines (length u.log) st.lined))
           ∙ go (find (is_ask d op) u.pending) refl (open_there d op u ((st.open_ d).0 (eq-eqb d.0 d.0 refl)))
         where
-          whole_ : Rattle.st_laws_volume.proofs.LostAnswers.Whole past t e sc happened it held later v a right marked met wait whole r d op told u
+          whole_ : Whole past t e sc happened it held later v a right marked met wait whole r d op told u
           whole_ = lost.whole_now past t e sc happened it held later v a right marked met wait whole r done os es u d op told q i st all
 
           by_ask : (b : Pending) → find (is_ask d op) u.pending ≡ Some b → answers_so u b (answers.Lost told) b.result ≡ true
@@ -615,14 +621,14 @@ module _ (past : List Step) (t : Traced) (e : Event) (sc : WorldTurn) (happened 
 
               parts : ((volume.is_sync b.ask && not (is_some b.result)) ≡ true)
                   × (((nat_lt 0 (length told) && volume.are_rising told)
-                  && (Rattle.std.specs.Prelude.nat_le 1024 (length told) || not (list_any (volume.is_left b.client (volume.file_of b.ask) told) u.log))) ≡ true)
+                  && (nat_le 1024 (length told) || not (list_any (volume.is_left b.client (volume.file_of b.ask) told) u.log))) ≡ true)
               parts = and_true (volume.is_sync b.ask && not (is_some b.result)) _ told_whole
 
               sync : (volume.is_sync b.ask ≡ true) × (not (is_some b.result) ≡ true)
               sync = and_true (volume.is_sync b.ask) (not (is_some b.result)) parts.0
 
               first : ((nat_lt 0 (length told) && volume.are_rising told) ≡ true)
-                  × ((Rattle.std.specs.Prelude.nat_le 1024 (length told) || not (list_any (volume.is_left b.client (volume.file_of b.ask) told) u.log)) ≡ true)
+                  × ((nat_le 1024 (length told) || not (list_any (volume.is_left b.client (volume.file_of b.ask) told) u.log)) ≡ true)
               first = and_true (nat_lt 0 (length told) && volume.are_rising told) _ parts.1
 
               few : (nat_lt 0 (length told) ≡ true) × (volume.are_rising told ≡ true)
@@ -664,7 +670,7 @@ module _ (past : List Step) (t : Traced) (e : Event) (sc : WorldTurn) (happened 
               is_lost =
                   and_both
                   (nat_lt 0 (length told) && (volume.are_rising told && list_all (is_lost_row u b.client (volume.file_of b.ask)) told))
-                  (Rattle.std.specs.Prelude.nat_le 1024 (length told) || not (list_any (volume.is_left b.client (volume.file_of b.ask) told) u.log))
+                  (nat_le 1024 (length told) || not (list_any (volume.is_left b.client (volume.file_of b.ask) told) u.log))
                   (and_both (nat_lt 0 (length told)) (volume.are_rising told && list_all (is_lost_row u b.client (volume.file_of b.ask)) told) few.0
                   (and_both (volume.are_rising told) (list_all (is_lost_row u b.client (volume.file_of b.ask)) told) few.1 named))
                   first.1
@@ -674,7 +680,7 @@ module _ (past : List Step) (t : Traced) (e : Event) (sc : WorldTurn) (happened 
               result (Some x) z = absurd (clash sync.1 (ap (λ o2. not (is_some o2)) z))
 
           go : (o : Option Pending) → find (is_ask d op) u.pending ≡ o → is_some o ≡ true →
-              is_some (Rattle.std.specs.Prelude.option_and_then (answered u (answers.Lost told)) o) ≡ true
+              is_some (option_and_then (answered u (answers.Lost told)) o) ≡ true
           go None f z = cc z
           go (Some b) f z =
               ap is_some
@@ -902,12 +908,15 @@ names_all past x h =
     on_more (RowsStand (past ++ x ∷ []) x.after.world) (NameEntries (owed (past ++ x ∷ [])))
     (λ v k d n r i. row_names x.after.world x.after.world v d n r (k.rows_ d n r i)) (led_by (led_to past x) x).volume h.rows
 
+pub rows_hold : EveryRunIsSafe → InEveryRun PagesAfter → InEveryRun (Led RowsHold)
+rows_hold safe pages k clients servers disks blocks form es head events =
+    carried Known RowsHold rows_kept es (traced (fresh_world k clients servers disks blocks form)) (rows_begin k clients servers disks blocks form)
+    (known_in k clients servers disks blocks form es head events safe pages)
+
 pub owed_rows_name_entries : EveryRunIsSafe → InEveryRun PagesAfter → InEveryRun OwedRowsNameEntries
 owed_rows_name_entries safe pages k clients servers disks blocks form es head events =
-    let t : Traced = traced (fresh_world k clients servers disks blocks form) in
-    throughout_more (Led RowsHold) OwedRowsNameEntries names_all [] (steps es t)
-    (carried Known RowsHold rows_kept es t (rows_begin k clients servers disks blocks form)
-    (known_in k clients servers disks blocks form es head events safe pages))
+    throughout_more (Led RowsHold) OwedRowsNameEntries names_all [] (steps es (traced (fresh_world k clients servers disks blocks form)))
+    (rows_hold safe pages k clients servers disks blocks form es head events)
 
 pub lost_answers_are_taken : EveryRunIsSafe → InEveryRun PagesAfter → InEveryRun (StepsAreTaken is_lost_answer)
 unfolding RowsToo begun

@@ -30,7 +30,8 @@ use Words.World as world
 use Words.World.{World, WorldClient, clock_of, numbered, site_of}
 use Rattle.st_base.specs.declared.rows.LostRow.{LostRow}
 use Rattle.st_lemmas.proofs.Marks.{of_entry}
-use Rattle.st_promises.specs.Losses.{AreLossesTold, IsLossTold, IsToldBy, IsToldTo, is_of_file, owed, owed_of_file, owed_page, owes, still_owed, told_by, with_dirty}
+use Rattle.st_lemmas.proofs.Members.{has_left}
+use Rattle.st_promises.specs.Losses.{AreLossesTold, IsLossTold, IsToldBy, IsToldTo, is_of_file, owed, owed_of_file, owed_page, owes, still_owed, told_by, with_dirty, writer, writes_page}
 use Rattle.st_laws_steps.specs.Client.Losses.{is_ended}
 use Rattle.st_laws_steps.specs.Lives.Lives.{LifeNext, LivesHold, NodeHolds, owner_of}
 use Rattle.st_laws_steps.proofs.Lives.Associations.{own_found}
@@ -45,10 +46,11 @@ use Rattle.st_laws_volume.specs.HardFiles.{after_line, after_lines, is_sync_at}
 use Rattle.st_laws_volume.specs.Logs.{IsLogOf, IsSame, fate_of}
 use Rattle.st_laws_volume.specs.LossMarks.{AllOnce, AreMet, HasFailed, IsLate, IsOnce, LateFailed}
 use Rattle.st_laws_volume.specs.Options.{OnSome}
-use Rattle.st_laws_volume.specs.Seen.{of_line}
+use Rattle.st_laws_volume.specs.Seen.{of_line, of_event}
 use Rattle.st_laws_volume.specs.StepKinds.{AtEachStep}
 use Rattle.st_laws_volume.specs.Witness.{Witness, before_line, of_lines}
-use Rattle.st_laws_volume.proofs.AnswerLines.{AllAsked}
+use Rattle.st_laws_volume.specs.Asks.{at_site}
+use Rattle.st_laws_volume.proofs.AnswerLines.{AllAsked, comes_to}
 use Rattle.st_laws_volume.proofs.AskedAsks.{AreOf, Asked, IsOf, all_has}
 use Rattle.st_laws_volume.proofs.CrashedLives.{is_over, past_of}
 use Rattle.st_laws_volume.proofs.EntryMarks as marks
@@ -63,14 +65,15 @@ use Rattle.st_laws_volume.proofs.FailureTouches.{Shut}
 use Rattle.st_laws_volume.proofs.FailureWrites as writes
 use Rattle.st_laws_volume.proofs.FailureWrites.{last_of}
 use Rattle.st_laws_volume.proofs.FateCrashes.{MarksOf}
-use Rattle.st_laws_volume.proofs.FateSeen.{tells_none}
+use Rattle.st_laws_volume.proofs.FateSeen.{tells_none, gives_fates}
 use Rattle.st_laws_volume.proofs.GoneLives.{gone_ended}
 use Rattle.st_laws_volume.proofs.HardAnswers as hard
 use Rattle.st_laws_volume.proofs.HardAnswers.{still_there}
 use Rattle.st_laws_pages.proofs.Causes.HardSeen.{told_both}
+use Rattle.st_laws_pages.proofs.Asks.Client.{key}
 use Rattle.st_laws_volume.proofs.LogEntries.{same_first}
 use Rattle.st_laws_volume.proofs.LossesMet.{MetHold}
-use Rattle.st_laws_volume.proofs.LossesOnce.{answer_mine, loss_mine, loss_once, loss_over}
+use Rattle.st_laws_volume.proofs.LossesOnce.{answer_mine, loss_mine, loss_once, loss_over, IsOver}
 use Rattle.st_laws_volume.proofs.LossLines as loss
 use Rattle.st_laws_volume.proofs.LossLines.{RowsAt, first_at, is_loss_of, plain_rows, rows_last}
 use Rattle.st_laws_volume.proofs.OpenAnswers.{at_both, block}
@@ -80,13 +83,19 @@ use Rattle.st_laws_volume.proofs.LogLines.{run_then}
 use Rattle.st_laws_volume.proofs.OwedEntries.{AllRows, Apart, Block, RowAt, Tell, block_plain, block_tells, never, row_moved}
 use Rattle.st_laws_volume.proofs.OwedRows.{StillOwed, has_owing, still, told_row}
 use Rattle.st_laws_volume.proofs.PresentLives.{next_life_upto, stepped}
-use Rattle.st_laws_volume.proofs.QuietAnswers.{step_calm}
+use Rattle.st_laws_volume.proofs.QuietAnswers.{step_calm, InFirst, InRest, order_at, where_is}
 use Rattle.st_laws_volume.proofs.SyncsSettled.{IsOn, is_on_it}
 use Rattle.st_laws_volume.proofs.SyncsWait.{AllWait}
+use Rattle.st_laws_volume.proofs.AskClient.{coming}
+use Rattle.st_laws_volume.proofs.AskSteps.{told_all}
+use Rattle.st_laws_volume.proofs.LossOrder.{AfterLoss, InOrder, Ordered, ordered}
 use Rattle.st_volume.specs.declared.step.VolumeStep.{VolumeStep}
-use Rattle.st_volume.specs.Pages.{Entry, is_at as is_place, is_by, is_by_at, is_by_on, is_dropped, is_on, place_of, same_file, same_place}
+use Rattle.st_volume.specs.Pages.{Entry, is_at as is_place, is_by, is_by_at, is_by_on, is_dropped, is_on, place_of, same_file, same_place, is_any}
 use Rattle.st_volume.specs.Volume as volume
 use Rattle.st_volume.specs.Volume.{Pending, Volume, is_ask, is_sync, run}
+use Rattle.st_rules.specs.ClientState.{server_of}
+use Rattle.st_rules.specs.declared.log.Change.{Change}
+use Rattle.std.specs.Prelude.{map, option_map}
 
 -- Lists.
 any_parts : {A : Type 0} (p : A → Bool) (xs : List A) (o : A) → list_any p (xs ++ o ∷ []) ≡ false → (list_any p xs ≡ false) × (p o ≡ false)
@@ -151,8 +160,8 @@ sync_is (asks.Name s ask) q = cc q
 on_same : (x : FileId × PageNo) (g : FileId) (what : Ask) → is_place x what ≡ true → is_on g what ≡ true → g ≡ x.0
 on_same x g what p q = go (place_of what) p q
   where
-    go : (o : Option (FileId × PageNo)) → Rattle.st_volume.specs.Pages.is_any (same_place x) o ≡ true →
-        Rattle.st_volume.specs.Pages.is_any (λ (y : FileId × PageNo). same_file g y.0) o ≡ true → g ≡ x.0
+    go : (o : Option (FileId × PageNo)) → is_any (same_place x) o ≡ true →
+        is_any (λ (y : FileId × PageNo). same_file g y.0) o ≡ true → g ≡ x.0
     go None i j = cc i
     go (Some y) i j =
         file_is g y.0 j ∙ sym (file_is x.0 y.0 (and_true (same_file x.0 y.0) (x.1.0 == y.1.0) i).0)
@@ -160,8 +169,8 @@ on_same x g what p q = go (place_of what) p q
 at_same : (f g : FileId) (p q : PageNo) (what : Ask) → is_place (f, p) what ≡ true → is_place (g, q) what ≡ true → (g ≡ f) × (q.0 ≡ p.0)
 at_same f g p q what a b = go (place_of what) a b
   where
-    go : (o : Option (FileId × PageNo)) → Rattle.st_volume.specs.Pages.is_any (same_place (f, p)) o ≡ true →
-        Rattle.st_volume.specs.Pages.is_any (same_place (g, q)) o ≡ true → (g ≡ f) × (q.0 ≡ p.0)
+    go : (o : Option (FileId × PageNo)) → is_any (same_place (f, p)) o ≡ true →
+        is_any (same_place (g, q)) o ≡ true → (g ≡ f) × (q.0 ≡ p.0)
     go None i j = cc i
     go (Some y) i j =
         let u = and_true (same_file f y.0) (p.0 == y.1.0) i in
@@ -171,13 +180,13 @@ at_same f g p q what a b = go (place_of what) a b
 on_place : (g : FileId) (q : PageNo) (what : Ask) → is_place (g, q) what ≡ true → is_on g what ≡ true
 on_place g q what a = go (place_of what) a
   where
-    go : (o : Option (FileId × PageNo)) → Rattle.st_volume.specs.Pages.is_any (same_place (g, q)) o ≡ true →
-        Rattle.st_volume.specs.Pages.is_any (λ (y : FileId × PageNo). same_file g y.0) o ≡ true
+    go : (o : Option (FileId × PageNo)) → is_any (same_place (g, q)) o ≡ true →
+        is_any (λ (y : FileId × PageNo). same_file g y.0) o ≡ true
     go None i = cc i
     go (Some y) i = (and_true (same_file g y.0) (q.0 == y.1.0) i).0
 
 -- a page that is dirty once is found
-once_found : (ds : List DirtyPage) → IsOnce ds → (d : DirtyPage) → Has d ds → find (pages.is_dirty_of d.ino d.page) ds ≡ Some d
+pub once_found : (ds : List DirtyPage) → IsOnce ds → (d : DirtyPage) → Has d ds → find (pages.is_dirty_of d.ino d.page) ds ≡ Some d
 once_found [] o d h = absurd h
 once_found (x ∷ ds) o d (inl e) =
     ap (λ b. if b then Some x else find (pages.is_dirty_of d.ino d.page) ds)
@@ -281,7 +290,7 @@ module _ (past : List Step) (t : Traced) (e : Event) (sc : WorldTurn) (happened 
   lives : LivesHold w
   lives = held.failures.stand.stand.fates.lives
 
-  abbrev pub calm : Rattle.st_laws_volume.proofs.FateSeen.gives_fates e ≡ false
+  abbrev pub calm : gives_fates e ≡ false
   calm = step_calm w e c r.site r.input r.takes
 
   abbrev pub State : List Observation → List Observation → List LogEntry → Volume → Type 0
@@ -858,7 +867,7 @@ module _ (past : List Step) (t : Traced) (e : Event) (sc : WorldTurn) (happened 
       alone : list_any (is_loss_of c n) done ≡ false
       alone = subst (λ k. list_any (is_loss_of k n) done ≡ false) mine (loss_once w sc lives c s d n life done os q)
 
-      abbrev lost : Rattle.st_laws_volume.proofs.LossesOnce.IsOver c s.site.node.state now n.0 s.site.node.state.associations
+      abbrev lost : IsOver c s.site.node.state now n.0 s.site.node.state.associations
       lost = loss_over w sc lives c s d n life done os q
 
       abbrev b : Association
@@ -876,19 +885,19 @@ module _ (past : List Step) (t : Traced) (e : Event) (sc : WorldTurn) (happened 
       -- no sync of the server was answered before
       abbrev start : List (ℕ × Ask)
       start =
-          Rattle.std.specs.Prelude.map Rattle.st_laws_pages.proofs.Asks.Client.key r.site.node.state.operations
-          ++ Rattle.st_laws_volume.proofs.AskClient.coming r.input
+          map key r.site.node.state.operations
+          ++ coming r.input
 
-      order : Rattle.st_laws_volume.proofs.LossOrder.Ordered w c r.site.node.state r.input start sc.seen
-      order = Rattle.st_laws_volume.proofs.LossOrder.ordered w e sc r (lives.lives.sites c r.site r.at).fit start refl
+      order : Ordered w c r.site.node.state r.input start sc.seen
+      order = ordered w e sc r (lives.lives.sites c r.site r.at).fit start refl
 
       starts : (k : ℕ × Ask) → Has k start → world.numbered (as_ c) k.0 ≡ Some k.1
       starts k i =
           all c k
           (subst (Has k)
-          (sym (ap (λ o. (Rattle.st_laws_volume.proofs.AskSteps.told_all c (Rattle.st_laws_volume.specs.Seen.of_event w e)
-          (Rattle.st_laws_volume.specs.Asks.at_site o)).pending) r.at
-          ∙ Rattle.st_laws_volume.proofs.AnswerLines.comes_to w e c r.site r.input r.takes)) i)
+          (sym (ap (λ o. (told_all c (of_event w e)
+          (at_site o)).pending) r.at
+          ∙ comes_to w e c r.site r.input r.takes)) i)
 
       none_before : (o : LogOwner) → o.client ≡ c → o.file.server ≡ n → IsLate w o → list_any (answers_sync n) done ≡ false
       none_before o own at late = go (list_any (answers_sync n) done) refl
@@ -897,7 +906,7 @@ module _ (past : List Step) (t : Traced) (e : Event) (sc : WorldTurn) (happened 
           loss_in xs ys z = any_front (is_loss_of c n) xs ys (ap (list_any (is_loss_of c n)) z ∙ alone)
 
           after : (front : List Observation) (k : ClientId) (op : ℕ) (answer : AppAnswer) (f : FileId) → k ≡ c → ask_of past x' k op ≡ Some (asks.Sync f) →
-              f.server.0 ≡ n.0 → list_any (is_loss_of c n) front ≡ false → Rattle.st_laws_volume.proofs.LossOrder.AfterLoss w c front op answer → ⊥
+              f.server.0 ≡ n.0 → list_any (is_loss_of c n) front ≡ false → AfterLoss w c front op answer → ⊥
           after front k op answer f same is on non z =
               clash (subst (λ (y : ServerId). list_any (is_loss_of c y) front ≡ true) its z.told) non
             where
@@ -908,18 +917,18 @@ module _ (past : List Step) (t : Traced) (e : Event) (sc : WorldTurn) (happened 
               words =
                   some_is
                   (sym
-                  (starts (Rattle.st_laws_pages.proofs.Asks.Client.key z.operation)
-                  (Rattle.st_lemmas.proofs.Members.has_left
-                  (Rattle.std.specs.Prelude.map Rattle.st_laws_pages.proofs.Asks.Client.key r.site.node.state.operations)
-                  (Rattle.st_laws_volume.proofs.AskClient.coming r.input) (Rattle.st_laws_pages.proofs.Asks.Client.key z.operation)
-                  (has_map_in Rattle.st_laws_pages.proofs.Asks.Client.key r.site.node.state.operations z.operation among)))
+                  (starts (key z.operation)
+                  (has_left
+                  (map key r.site.node.state.operations)
+                  (coming r.input) (key z.operation)
+                  (has_map_in key r.site.node.state.operations z.operation among)))
                   ∙ (ap (world.numbered (as_ c)) z.is ∙ (ap (λ y. world.numbered (as_ y) op) (sym same) ∙ is)))
 
               its : z.a.server ≡ n
               its =
                   ap (λ k. record { 0 = k })
-                  (sym (eqb-true (Rattle.st_rules.specs.ClientState.server_of z.operation.ask).0 z.a.server.0 z.own)
-                  ∙ (ap (λ (y : Ask). (Rattle.st_rules.specs.ClientState.server_of y).0) words ∙ on))
+                  (sym (eqb-true (server_of z.operation.ask).0 z.a.server.0 z.own)
+                  ∙ (ap (λ (y : Ask). (server_of y).0) words ∙ on))
 
           to_sync : (k : ClientId) (op : ℕ) (o : Option Ask) → ask_of past x' k op ≡ o → is_sync_to n o ≡ true →
               (f : FileId) × (ask_of past x' k op ≡ Some (asks.Sync f)) × (f.server.0 ≡ n.0)
@@ -932,7 +941,7 @@ module _ (past : List Step) (t : Traced) (e : Event) (sc : WorldTurn) (happened 
           to_sync k op (Some (asks.Name g ask)) z p = cc p
 
           at_line : (front back : List Observation) (x : Observation) → done ≡ front ++ x ∷ back → answers_sync n x ≡ true → ⊥
-          at_line front back (seen.Answered k op answer) is p = go2 (Rattle.st_laws_volume.proofs.QuietAnswers.where_is order.first order.rest front
+          at_line front back (seen.Answered k op answer) is p = go2 (where_is order.first order.rest front
               (seen.Answered k op answer) (back ++ this_line ∷ os)
               (sym (append_assoc front (seen.Answered k op answer ∷ back) (this_line ∷ os)) ∙ (ap (λ xs. xs ++ this_line ∷ os) (sym is) ∙ (q ∙ order.is))))
             where
@@ -942,12 +951,12 @@ module _ (past : List Step) (t : Traced) (e : Event) (sc : WorldTurn) (happened 
               non : list_any (is_loss_of c n) front ≡ false
               non = loss_in front (seen.Answered k op answer ∷ back) (sym is)
 
-              go2 : Rattle.st_laws_volume.proofs.QuietAnswers.InFirst order.first front (seen.Answered k op answer)
-                  ⊎ Rattle.st_laws_volume.proofs.QuietAnswers.InRest order.first order.rest front (seen.Answered k op answer) (back ++ this_line ∷ os) → ⊥
+              go2 : InFirst order.first front (seen.Answered k op answer)
+                  ⊎ InRest order.first order.rest front (seen.Answered k op answer) (back ++ this_line ∷ os) → ⊥
               go2 (inl (post, i)) =
                   let z =
-                  Rattle.st_laws_volume.proofs.QuietAnswers.order_at w c [] front post (seen.Answered k op answer)
-                  (subst (Rattle.st_laws_volume.proofs.LossOrder.InOrder w c []) i order.order) in
+                  order_at w c [] front post (seen.Answered k op answer)
+                  (subst (InOrder w c []) i order.order) in
                   after front k op answer f.0 z.0 f.1 f.2 non z.1
               go2 (inr (pre, i, k2)) =
                   clash (subst (λ (y : ServerId). list_any (is_loss_of c y) order.first ≡ true) at (order.losses o own late))
@@ -1030,7 +1039,7 @@ module _ (past : List Step) (t : Traced) (e : Event) (sc : WorldTurn) (happened 
             (held.failures.stand.stand.both.writes.latest_own c s.site s.there s.runs b lost.has x.ino x.page x dirty)
           where
             at_place : (m : ℕ) → latest w.log c (file_at b x.ino) x.page ≡ suc m → (o : Option LogEntry) → slice_get w.log m ≡ o →
-                Rattle.std.specs.Prelude.option_map of_entry o ≡ Some (owner_at_page c b x.ino x.page) → Entry0
+                option_map of_entry o ≡ Some (owner_at_page c b x.ino x.page) → Entry0
             at_place m z None k h = cc h
             at_place m z (Some o) k h = record { m = m; index = z; o = o; at = k; own = some_is h }
 
@@ -1136,7 +1145,7 @@ module _ (past : List Step) (t : Traced) (e : Event) (sc : WorldTurn) (happened 
                 (and_both (n.0 == b.server.0) (x.ino == x.ino) (eq-eqb n.0 b.server.0 (sym lost.its)) (eq-eqb x.ino x.ino refl))
                 (eq-eqb x.page.0 x.page.0 refl))
 
-            at_change : (ch : Rattle.st_rules.specs.declared.log.Change.Change) → ev.changes_page ch ≡ true →
+            at_change : (ch : Change) → ev.changes_page ch ≡ true →
                 is_place (record { server = n; ino = x.ino }, x.page)
                 (Rattle.st_laws_volume.specs.Logs.ask_of entry0.o.of.file entry0.o.of.page ch) ≡ true
             at_change (Words.changes.Write bytes) z = matches
@@ -1144,7 +1153,7 @@ module _ (past : List Step) (t : Traced) (e : Event) (sc : WorldTurn) (happened 
             at_change Words.changes.Cut z = cc z
 
         command_is : (owed_page b.store.commands x).command ≡ number
-        command_is = ap (λ o. Rattle.st_promises.specs.Losses.writer o (find (Rattle.st_promises.specs.Losses.writes_page x) b.store.commands)) failed.0.1.0
+        command_is = ap (λ o. writer o (find (writes_page x) b.store.commands)) failed.0.1.0
 
         new_row : RowAt w sc.world u c n (owed_page b.store.commands x)
         unfolding y

@@ -8,6 +8,7 @@ use Words.Truth.{clash}
 use Rattle.st_base.specs.declared.rows.LostRow.{LostRow}
 use Rattle.st_promises.specs.Losses.{as_told, in_order, is_of_file, is_of_page, owed_of_file, owed_page, owing, owing_all, page_number, row_of_page, rows_of_file, still_owed}
 use Rattle.st_laws_volume.proofs.LostRows.{Above, Rising, pages_of, rising_rows}
+use Rattle.std.proofs.Common.{eq-eqb}
 
 -- What joins.
 pub has_owing : (ks : List PageCommand) (ds : List DirtyPage) (rows : List LostPage) (r : LostPage) → Has r (owing_all ks ds rows) →
@@ -90,7 +91,7 @@ still rows ino r h = go (has_append (filter (λ x. not (is_of_file ino x)) rows)
         let b = has_filter (λ x. not (is_of_file ino x)) rows r i in
         record {
           was = b.0;
-          other = λ e y j. absurd (clash (Rattle.std.proofs.Common.eq-eqb r.ino ino e) (not_true (is_of_file ino r) b.1));
+          other = λ e y j. absurd (clash (eq-eqb r.ino ino e) (not_true (is_of_file ino r) b.1));
         }
     go (inr i) =
         record {

@@ -21,6 +21,7 @@ use Words.World as world
 use Words.World.{World, WorldClient, site_of}
 use Rattle.st_rules.specs.History.{Traced}
 use Rattle.st_rules.specs.declared.log.Change.{Change}
+use Rattle.st_rules.specs.Client.{ClientNode}
 use Rattle.st_lemmas.proofs.Marks.{of_entry}
 use Rattle.st_promises.specs.Losses.{owed}
 use Rattle.st_laws_steps.specs.Lives.Lives.{LivesHold, owner_of}
@@ -38,7 +39,7 @@ use Rattle.st_laws_volume.proofs.FailureWrites as writes
 use Rattle.st_laws_volume.proofs.FailureWrites.{touched}
 use Rattle.st_laws_volume.proofs.FateCrashes.{MarksOf}
 use Rattle.st_laws_volume.proofs.FateEnds.{marked_at}
-use Rattle.st_laws_volume.proofs.FateKeeps.{AllKeep}
+use Rattle.st_laws_volume.proofs.FateKeeps.{AllKeep, Keeps}
 use Rattle.st_laws_volume.proofs.LogEntries.{AtBoth, same_at}
 use Rattle.st_laws_volume.proofs.OwedEntries.{AllRows, Apart, RowAt}
 use Rattle.st_laws_volume.proofs.PresentLives.{next_life_upto, present_before, stepped}
@@ -73,7 +74,7 @@ module _ (t : World) (e : Event) (sc : WorldTurn) (lives : LivesHold t) (c : Cli
             starts = ap (λ (z : WorldClient). z.starts) same ∙ (s.starts ∙ ap (λ (z : WorldClient). z.starts) old);
             runs_on =
                 ap (λ (z : WorldClient). z.node.running) same
-                ∙ (ap (λ (n : Rattle.st_rules.specs.Client.ClientNode). n.running) s.node ∙ s.runs);
+                ∙ (ap (λ (n : ClientNode). n.running) s.node ∙ s.runs);
             each = λ b i.
                 let z = stepped t e sc lives c s b (subst (λ (k : WorldClient). Has b k.node.state.associations) same i) in (
                   z.0,
@@ -193,7 +194,7 @@ module _ (past : List Step) (t : Traced) (e : Event) (sc : WorldTurn) (happened 
         row : RowAt w w v d s r
         row = rows d s r i
 
-        y : (g : Entry) × (slice_get u.log row.n ≡ Some g) × Rattle.st_laws_volume.proofs.FateKeeps.Keeps ⊥ row.f g
+        y : (g : Entry) × (slice_get u.log row.n ≡ Some g) × Keeps ⊥ row.f g
         y = kept_at ⊥ v.log u.log keeps row.n row.f row.at
 
         ends : (after : WorldClient) → site_of sc.world d ≡ Some after → (b2 : Association) → Has b2 after.node.state.associations → b2.server ≡ s →

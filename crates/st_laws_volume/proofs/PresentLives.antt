@@ -18,6 +18,7 @@ use Rattle.st_laws_steps.proofs.Lives.Associations.{own_found}
 use Rattle.st_laws_pages.proofs.Lives.LifeSteps.{steps_so}
 use Rattle.st_laws_volume.proofs.EventClients.{Crashes, SiteNext, SiteStep, Starts, Stays, Steps}
 use Rattle.st_laws_volume.proofs.FailureLives.{PresentOf, life_upto}
+use Rattle.st_rules.specs.ClientState.{ClientState}
 
 -- the partner of a row of the second list
 pub pairs_back : {A : Type 0} (R : A → A → Type 0) (xs ys : List A) (y : A) → Pairwise R xs ys → Has y ys → (x : A) × Has x xs × R x y
@@ -28,7 +29,7 @@ pairs_back R (x ∷ xs) (z ∷ ys) y r (inl e) = (x, inl refl, subst (R x) (sym 
 pairs_back R (x ∷ xs) (z ∷ ys) y r (inr h) = let b = pairs_back R xs ys y r.rest h in (b.0, inr b.1, b.2)
 
 -- a life never falls
-pub next_life_upto : (now : Stamp) (s : Rattle.st_rules.specs.ClientState.ClientState) (a b : Association) → LifeNext now s a b → a.life.0 ≤ b.life.0
+pub next_life_upto : (now : Stamp) (s : ClientState) (a b : Association) → LifeNext now s a b → a.life.0 ≤ b.life.0
 next_life_upto now s a b n = go (is_ended s.config now a.session) refl
   where
     go : (k : Bool) → is_ended s.config now a.session ≡ k → a.life.0 ≤ b.life.0

@@ -6,6 +6,7 @@
 ghost use Rattle.st_laws_volume.specs.AnswerKinds.{FilesAreAnsweredWithoutResults, LossesAreToldWhole, is_disk_fault, is_lost_answer, is_opsfull, is_quiesced, is_uncertain};
 ghost use Rattle.st_laws_volume.specs.AskedAsks.{AsksAreAsAsked};
 ghost use Rattle.st_laws_volume.specs.Asks.{AsksAgree};
+ghost use Rattle.st_laws_volume.specs.DirtyEntries.{DirtyPagesHaveEntries, FullClientsAreFull};
 ghost use Rattle.st_laws_volume.specs.DirtyPages.{DirtyPagesWereChanged};
 ghost use Rattle.st_laws_volume.specs.Effects.{ChangesFindTheirFiles, ChangesTakeEffect, MappedFilesExist};
 ghost use Rattle.st_laws_volume.specs.Epochs.{EpochsAgree};
@@ -275,6 +276,20 @@ pub fn lost_answers_are_taken()
 /// what will be owed of the page.
 pub fn late_pages_have_failed()
     ensures { InEveryRun LatePagesHaveFailed }
+{}
+
+/// In every run, after every event: each page that is dirty under a lease that isn't over has an
+/// entry of its client in the volume, if it has taken all steps before. The client hasn't crashed
+/// since the entry joined the log and was not told of it, and the entry was not dropped.
+pub fn dirty_pages_have_entries()
+    ensures { InEveryRun DirtyPagesHaveEntries }
+{}
+
+/// In every run, after every event: if 64 pages of a server are dirty under a lease that isn't
+/// over, other than the one that an ask writes or patches, the volume lets this ask be answered
+/// `dirtyfull`, if it has taken all steps before.
+pub fn full_clients_are_full()
+    ensures { InEveryRun FullClientsAreFull }
 {}
 
 /// In every run, after every event: no page is dirty twice at a client.
