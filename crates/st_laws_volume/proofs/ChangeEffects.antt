@@ -305,10 +305,10 @@ fates_unchanged n (e ∷ es) (f ∷ fs) = go e.fate f.fate (fates_unchanged (n +
     go (fates.Gone cause) y h = h
 
 -- Steps other than effects.
-abbrev is_other : VolumeStep → Bool
+abbrev pub is_other : VolumeStep → Bool
 is_other it = not (is_effect it)
 
-none_taken : (its : List VolumeStep) (v : Volume) → list_all is_other its ≡ true → AreTaken is_effect its v
+pub none_taken : (its : List VolumeStep) (v : Volume) → list_all is_other its ≡ true → AreTaken is_effect its v
 unfolding AreTaken
 none_taken [] v q = tt
 none_taken (it ∷ its) v q =

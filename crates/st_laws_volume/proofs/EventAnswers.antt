@@ -1,6 +1,6 @@
 -- The answers that are seen of an event are those that a client gives in the step that it takes, in their order.
 use Rattle.std.proofs.Common.{◌≡◌, ℕ, ◌+◌, Bool, true, false, List, [], ◌∷◌, ◌++◌, Option, Some, None, Ok, Err, refl, sym, ap, ◌∙◌, subst, append_assoc, if◌then◌else◌}
-use Rattle.std.specs.Prelude.{Result}
+use Rattle.std.specs.Prelude.{Result, unwrap_or}
 use Rattle.std.proofs.lemmas.List.{append-nil}
 use Rattle.st_base.specs.declared.disk.BlockAt.{BlockAt}
 use Rattle.st_base.specs.declared.disk.Command.{Command}
@@ -185,6 +185,8 @@ pub record Stepping (t : World) (e : Event) (sc : WorldTurn) : Type 0 where
   pub says : sc.seen ≡ (ev.client_says_all client site.node.state (cl.client_step site.node.state now input).out before).seen
   pub after : WorldClient
   pub left : site_of sc.world client ≡ Some after
+  pub time : clock_of sc.world (nodes.Client client) ≡ now
+  pub runs_on : after.node.running ≡ true
   pub state_is : after.node.state ≡ (cl.client_step site.node.state now input).state
   pub gives : given_in_lines sc.seen ≡ given_by client (cl.client_step site.node.state now input).out
 
@@ -200,7 +202,8 @@ module _ (t : World) (e : Event) where
   w = ev.counted t
 
   takes : (v : World) (c : ClientId) (site new : WorldClient) (i : ClientInput) → v.clients ≡ t.clients →
-      clock_of v (nodes.Client c) ≡ clock_of t (nodes.Client c) → site_of t c ≡ Some site → new.node ≡ site.node → TakesAt t e c site i → A (ev.client_takes v c i new)
+      clock_of v (nodes.Client c) ≡ clock_of t (nodes.Client c) → site_of t c ≡ Some site → new.node ≡ site.node → TakesAt t e c site i →
+      A (ev.client_takes v c i new)
   unfolding ev.client_takes ev.client_took cl.node_step
   takes v c site new i alike clock at same z = go new.node.running refl
     where
@@ -223,6 +226,12 @@ module _ (t : World) (e : Event) where
           ∙ (says_lives c new.node.state (cl.client_step new.node.state now i).out first).clients)
           ∙ numbered_own v.clients c.0 next site (ap (λ zs. world.numbered zs c.0) alike ∙ at)
 
+      time : clock_of (ev.flushes c (cl.client_step new.node.state now i).state (world.all_servers said.world) said.world) (nodes.Client c) ≡ now
+      time =
+          ap (λ ts. unwrap_or {T = Stamp} (world.numbered ts c.0) (record { 0 = 0 }))
+          ((flush_parts c (cl.client_step new.node.state now i).state (world.all_servers said.world) said.world).clocks
+          ∙ (says_lives c new.node.state (cl.client_step new.node.state now i).out first).clocks)
+
       go : (b : Bool) → new.node.running ≡ b →
           A (ev.client_took v c new (if b then Ok (cl.node_turn new.node (cl.client_step new.node.state now i)) else Err Crashed))
       go true q =
@@ -241,6 +250,8 @@ module _ (t : World) (e : Event) where
             says = ap (λ (y : cl.ClientNode). (ev.client_says_all c y.state (cl.client_step y.state now i).out first).seen) same;
             after = next;
             left = left;
+            time = time;
+            runs_on = q;
             state_is = ap (λ (y : cl.ClientNode). (cl.client_step y.state now i).state) same;
             gives =
                 (all_give c new.node.state (cl.client_step new.node.state now i).out first).is

@@ -7,6 +7,7 @@ pub mod AskEvents
 pub mod AskSteps
 pub mod AskedAsks
 pub mod Asks
+pub mod AsksFollowed
 pub mod AsksTaken
 pub mod Carried
 pub mod CarriedEntries
@@ -26,6 +27,8 @@ pub mod DirtyBefore
 pub mod DirtyEntries
 pub mod DirtyOnce
 pub mod DiskFaults
+pub mod EarlierRequests
+pub mod EffectsTaken
 pub mod EntriesTold
 pub mod EntryEvents
 pub mod EntryMarks
@@ -33,6 +36,7 @@ pub mod EpochSteps
 pub mod Epochs
 pub mod EventAnswers
 pub mod EventClients
+pub mod EventFollowed
 pub mod FailedWrites
 pub mod FailureEntries
 pub mod FailureLives
@@ -53,8 +57,10 @@ pub mod GoneLives
 pub mod HardAnswers
 pub mod HardFiles
 pub mod KeptResults
+pub mod LastingSessions
 pub mod LatePages
 pub mod LateWrites
+pub mod LifeAnswers
 pub mod LineOrder
 pub mod LogEntries
 pub mod LogLines
@@ -74,6 +80,7 @@ pub mod MarksStay
 pub mod Notices
 pub mod NoticesStay
 pub mod OpenAnswers
+pub mod OpenRequests
 pub mod OpenResults
 pub mod Options
 pub mod OrphanResults
@@ -92,6 +99,7 @@ pub mod ReadContents
 pub mod ReadPages
 pub mod ReadPatches
 pub mod ReadRanges
+pub mod ReadSessions
 pub mod RefusalNotices
 pub mod RemoveGrants
 pub mod RepliesNoticed
@@ -109,8 +117,11 @@ pub mod ServedFiles
 pub mod ServedRequests
 pub mod SessionEpochs
 pub mod Shown
+pub mod SoonerAsks
 pub mod Start
 pub mod StepKinds
+pub mod StuckNames
+pub mod StuckSites
 pub mod SyncsSettled
 pub mod SyncsWait
 pub mod ToldResults

@@ -66,7 +66,8 @@ asked_in_range n c (events.Report k ok) r = tt
 asked_in_range n c (events.Crash x) r = tt
 asked_in_range n c (events.Start x) r = tt
 
-asks_in_range : (n : ℕ) (c : ClientId) (xs : List Step) → list_all (is_in_range n) xs ≡ true → list_all is_ask (filter_map (ask_in c) (map event_of xs)) ≡ true
+pub asks_in_range : (n : ℕ) (c : ClientId) (xs : List Step) → list_all (is_in_range n) xs ≡ true →
+    list_all is_ask (filter_map (ask_in c) (map event_of xs)) ≡ true
 asks_in_range n c [] r = refl
 asks_in_range n c (x ∷ xs) r =
     let b = and_true (is_in_range n x) (list_all (is_in_range n) xs) r in go (ask_in c x.event) (asked_in_range n c x.event b.0) (asks_in_range n c xs b.1)
@@ -76,7 +77,7 @@ asks_in_range n c (x ∷ xs) r =
     go None p q = q
     go (Some ask) p q = and_both (is_ask ask) _ p q
 
-numbered_in_range : (xs : List Ask) (op : ℕ) (ask : Ask) → list_all is_ask xs ≡ true → numbered xs op ≡ Some ask → is_ask ask ≡ true
+pub numbered_in_range : (xs : List Ask) (op : ℕ) (ask : Ask) → list_all is_ask xs ≡ true → numbered xs op ≡ Some ask → is_ask ask ≡ true
 numbered_in_range xs zero ask p q = cc
 numbered_in_range xs (suc n) ask p q = all_get is_ask xs n ask p q
 

@@ -66,7 +66,7 @@ in_flat {A} {B} f (z ∷ xs) y h = go (has_append (f z) (flat_map f xs) y h) (λ
     go (inl i) k = (z, inl refl, i)
     go (inr i) k = let r = k i in (r.0, inr r.1, r.2)
 
-find_there : {A : Type 0} (p : A → Bool) (xs : List A) (x : A) → Has x xs → p x ≡ true → (y : A) × (find p xs ≡ Some y)
+pub find_there : {A : Type 0} (p : A → Bool) (xs : List A) (x : A) → Has x xs → p x ≡ true → (y : A) × (find p xs ≡ Some y)
 find_there {A} p xs x i e = go (find p xs) refl
   where
     go : (o : Option A) → find p xs ≡ o → (y : A) × (find p xs ≡ Some y)

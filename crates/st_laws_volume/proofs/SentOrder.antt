@@ -26,11 +26,11 @@ use Rattle.st_volume.specs.Volume as volume
 use Rattle.st_volume.specs.Volume.{cuts_file, is_cut_or_name, is_sooner}
 
 -- What must take effect sooner is of the same file, and changes it, cuts it or is for a name.
-record Sooner (a b : Ask) : Type 0 where
-  file : same_file (volume.file_of a) (volume.file_of b) ≡ true
-  kind : (is_some (place_of a) || is_cut_or_name a) ≡ true
+pub record Sooner (a b : Ask) : Type 0 where
+  pub file : same_file (volume.file_of a) (volume.file_of b) ≡ true
+  pub kind : (is_some (place_of a) || is_cut_or_name a) ≡ true
 
-sooner_is : (a b : Ask) → is_cut_or_name b ≡ true → is_sooner a b ≡ true → Sooner a b
+pub sooner_is : (a b : Ask) → is_cut_or_name b ≡ true → is_sooner a b ≡ true → Sooner a b
 sooner_is (asks.Write f p bytes) b k q =
     record { file = (and_true (is_cut_or_name b) (same_file f (volume.file_of b)) (sym (none b k) ∙ q)).1; kind = refl }
   where
@@ -49,7 +49,7 @@ sooner_is (asks.Read f p) b k q = cc q
 sooner_is (asks.Sync f) b k q = cc q
 
 -- The file of an ask, in the client's words.
-server_is : (a : Ask) → volume.server_of a ≡ cs.server_of a
+pub server_is : (a : Ask) → volume.server_of a ≡ cs.server_of a
 server_is (asks.Write f p bytes) = refl
 server_is (asks.Patch f p at bytes) = refl
 server_is (asks.Read f p) = refl

@@ -278,7 +278,7 @@ order_on past t e sc it f g h =
       },
     )
 
-ordered_begins : (k : Config) (clients servers disks blocks form : ℕ) → SitesOrdered (fresh_world k clients servers disks blocks form)
+pub ordered_begins : (k : Config) (clients servers disks blocks form : ℕ) → SitesOrdered (fresh_world k clients servers disks blocks form)
 unfolding fresh_world cl.fresh_client
 ordered_begins k clients servers disks blocks form c site at =
     let z = has_map (fresh_site k servers) (numbers 1 clients) site (numbered_has (map (fresh_site k servers) (numbers 1 clients)) c.0 site at) in

@@ -193,7 +193,7 @@ is_told_so (answers.Listed rows) q = refl
 is_told_so (answers.Refused code) q = refl
 is_told_so a q = cc q
 
-no_reassertion : (a : Ask) (b : Body) → AsksFor a b → reasserts b ≡ true → ⊥
+pub no_reassertion : (a : Ask) (b : Body) → AsksFor a b → reasserts b ≡ true → ⊥
 no_reassertion a (bodies.Reassert rows) k e = none a k
   where
     none : (a : Ask) → AsksFor a (bodies.Reassert rows) → ⊥

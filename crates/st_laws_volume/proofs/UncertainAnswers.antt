@@ -84,7 +84,7 @@ only_uncertain (kinds.WriteFailed c number i) q = refl
 only_uncertain (kinds.ReadFailed c s number) q = refl
 
 -- The volume's words for asks are the client's.
-server_same : (a : Ask) → volume.server_of a ≡ cs.server_of a
+pub server_same : (a : Ask) → volume.server_of a ≡ cs.server_of a
 server_same (asks.Write f p bytes) = refl
 server_same (asks.Patch f p at bytes) = refl
 server_same (asks.Read f p) = refl
@@ -97,7 +97,7 @@ server_same (asks.Name s (names.Mkdir dir name)) = refl
 server_same (asks.Name s (names.Rename dir name dir2 name2)) = refl
 server_same (asks.Name s (names.List dir after)) = refl
 
-cut_same : (a : Ask) → cs.is_cut_or_name a ≡ true → volume.is_cut_or_name a ≡ true
+pub cut_same : (a : Ask) → cs.is_cut_or_name a ≡ true → volume.is_cut_or_name a ≡ true
 cut_same (asks.Cut f p) e = refl
 cut_same (asks.Name s ask) e = refl
 cut_same (asks.Write f p bytes) e = cc e

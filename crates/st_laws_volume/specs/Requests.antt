@@ -31,6 +31,14 @@ pub record HasAsk (t : Witness) (past : List Step) (s : ServerId) (m : Message) 
   pub means : AsksFor ask m.body
   pub unsettled : list_any (settles_in (sender m.header) behind.op) past ≡ false
 
+-- The ghost has an operation under the key of the request. Its ask is open or orphaned, and no open ask must take effect before it.
+pub record AskIsNext (t : Witness) (v : Volume) (s : ServerId) (m : Message) : Type 0 where
+  pub behind : Behind
+  pub found : find (is_behind s m.header) t.behind ≡ Some behind
+  pub ask : Pending
+  pub there : find (is_ask (sender m.header) behind.op) (v.pending ++ v.orphans) ≡ Some ask
+  pub first : list_any (is_before ask) v.pending ≡ false
+
 -- The open ask of the operation has no result yet.
 pub record FindsNone (t : Witness) (v : Volume) (s : ServerId) (m : Message) : Type 0 where
   pub none :
@@ -85,6 +93,12 @@ OfDelivery fact w e = ⊤
 -- Requests have asks: each request for a cut or a name that a server serves in an event, if the server does what is requested.
 abbrev pub RequestsHaveAsks : Promise
 RequestsHaveAsks past x = OfDelivery (HasAsk (led_to past x) past) x.before.world x.event
+
+-- Asks of requests are next: each such request's is open or orphaned, and none must take effect before it, at each event, if the volume has taken the steps
+-- of all events before it.
+abbrev pub AsksOfRequestsAreNext : Promise
+AsksOfRequestsAreNext past x =
+    OnSome (λ v. OfDelivery (AskIsNext (led_to past x) v) x.before.world x.event) (led_to past x).volume
 
 -- Requests find no result: an ask takes effect once.
 abbrev pub RequestsFindNone : Promise

@@ -13,7 +13,7 @@ ghost use Rattle.st_laws_volume.specs.Epochs.{EpochsAgree};
 ghost use Rattle.st_laws_volume.specs.FateMarks.{CrashedEntriesArePast, CrashesAreMarked, FailedWritesAreRemembered};
 ghost use Rattle.st_laws_volume.specs.Fates.{StillEventsAreTaken};
 ghost use Rattle.st_laws_volume.specs.HardFiles.{HardFilesAreClean};
-ghost use Rattle.st_laws_volume.specs.StepKinds.{AnswersAreToOpenAsks, EntriesAreTold, KindsAreEnough, StepsAreTaken, is_ask, is_change_line, is_failed_write, is_fate, is_free, is_hard_answer, is_line, is_written};
+ghost use Rattle.st_laws_volume.specs.StepKinds.{AnswersAreToOpenAsks, EntriesAreTold, KindsAreEnough, StepsAreTaken, is_ask, is_change_line, is_effect, is_failed_write, is_fate, is_free, is_hard_answer, is_line, is_written};
 ghost use Rattle.st_laws_volume.specs.Laws.{RunsInParts, StepsShowTheEvent, TheStartAgrees};
 ghost use Rattle.st_laws_volume.specs.Logs.{InEveryRun, LogsAgree};
 ghost use Rattle.st_laws_volume.specs.LossMarks.{LatePagesHaveFailed, LossesAreMet, PagesAreOnce};
@@ -21,7 +21,7 @@ ghost use Rattle.st_laws_volume.specs.Notices.{AsksHaveNoticed};
 ghost use Rattle.st_laws_volume.specs.OwedRows.{OwedRowsNameEntries};
 ghost use Rattle.st_laws_volume.specs.Reads.{PagesAgree, ReadsGiveThePages};
 ghost use Rattle.st_laws_volume.specs.Refusals.{GoneFilesStayGone, NoticesStay, RefusalsAreNoticed, RepliesStayNoticed};
-ghost use Rattle.st_laws_volume.specs.Requests.{RequestsAreForTheirAsks, RequestsFindNone, RequestsHaveAsks, RequestsHaveEffects, RequestsTakeEffectInOrder};
+ghost use Rattle.st_laws_volume.specs.Requests.{AsksOfRequestsAreNext, RequestsAreForTheirAsks, RequestsFindNone, RequestsHaveAsks, RequestsHaveEffects, RequestsTakeEffectInOrder};
 ghost use Rattle.st_laws_volume.specs.ResultAnswers.{gives_result};
 ghost use Rattle.st_laws_volume.specs.Results.{OrphansHaveNoResult, ResultsAreOfCutsAndNames};
 ghost use Rattle.st_laws_volume.specs.SentOrder.{RequestsAreInOrder};
@@ -390,6 +390,18 @@ pub fn requests_take_effect_in_order()
 /// earlier one was sent too, or needs a file.
 pub fn requests_are_in_order()
     ensures { InEveryRun RequestsAreInOrder }
+{}
+
+/// In every run the ask to which such a request belongs is open or orphaned, and no open ask must
+/// take effect before it, if the volume has taken the steps of all events before.
+pub fn asks_of_requests_are_next()
+    ensures { InEveryRun AsksOfRequestsAreNext }
+{}
+
+/// In every run the volume takes each effect, if it has taken all steps before it: that of a
+/// request that a server serves and does, and that of each write and patch, at its line.
+pub fn effects_are_taken()
+    ensures { InEveryRun (StepsAreTaken is_effect) }
 {}
 
 /// In every run such a request finds that the open ask to which it belongs has no result yet: an
