@@ -51,6 +51,7 @@ pub mod FateSeen
 pub mod Fates
 pub mod FatesTaken
 pub mod FewAsks
+pub mod FileReplies
 pub mod FullAnswers
 pub mod GoneFiles
 pub mod GoneLives
@@ -77,6 +78,7 @@ pub mod LostAnswers
 pub mod LostRows
 pub mod MappedFiles
 pub mod MarksStay
+pub mod NameReplies
 pub mod Notices
 pub mod NoticesStay
 pub mod OpenAnswers

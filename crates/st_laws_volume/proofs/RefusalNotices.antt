@@ -7,35 +7,19 @@ use Rattle.std.proofs.lemmas.Slice.Eq.{bytes_eq-Decides}
 use Rattle.st_base.specs.declared.ids.GrantNo.{GrantNo}
 use Rattle.st_base.specs.declared.ids.NodeId.{NodeId}
 use Rattle.st_base.specs.declared.ids.NodeId.TheVariants as nodes
-use Rattle.st_base.specs.declared.ids.PageNo.{PageNo}
 use Rattle.st_base.specs.declared.ids.ServerId.{ServerId}
 use Rattle.st_base.specs.declared.ids.Stamp.{Stamp}
-use Rattle.st_base.specs.declared.mode.Mode.{Mode}
-use Rattle.st_base.specs.declared.mode.Mode.TheVariants as modes
 use Rattle.st_base.specs.declared.names.NameAsk.TheVariants as asked
-use Rattle.st_base.specs.declared.names.NameRow.{NameRow}
 use Rattle.st_messages.specs.declared.ask.Ask.{Ask}
 use Rattle.st_messages.specs.declared.ask.Ask.TheVariants as asks
 use Rattle.st_messages.specs.declared.event.Event.{Event}
 use Rattle.st_messages.specs.declared.event.Event.TheVariants as events
 use Rattle.st_messages.specs.declared.message.Body.{Body}
 use Rattle.st_messages.specs.declared.message.Body.TheVariants as bodies
-use Rattle.st_messages.specs.declared.message.Header.{Header}
 use Rattle.st_messages.specs.declared.message.Message.{Message}
-use Rattle.st_messages.specs.declared.message.NameOp.{NameOp}
 use Rattle.st_messages.specs.declared.message.NameOp.TheVariants as ops
 use Rattle.st_messages.specs.declared.message.Why.TheVariants as why
-use Rattle.st_rules.specs.declared.extents.AllocateRefusal.{AllocateRefusal}
-use Rattle.st_rules.specs.declared.extents.AllocateRefusal.TheVariants as wants
-use Rattle.st_rules.specs.declared.locks.AcquireRefusal.{AcquireRefusal}
-use Rattle.st_rules.specs.declared.locks.Verdict.{Verdict}
-use Rattle.st_rules.specs.declared.locks.Verdict.TheVariants as verdicts
-use Rattle.st_rules.specs.declared.names.EntryRefusal.{EntryRefusal}
-use Rattle.st_rules.specs.Extents as extents
-use Rattle.st_rules.specs.Extents.{Extents}
-use Rattle.st_rules.specs.Locks as locks
 use Rattle.st_rules.specs.declared.world.SentMessage.{SentMessage}
-use Rattle.st_rules.specs.declared.names.EntryRefusal.TheVariants.{IsDir}
 use Rattle.st_rules.specs.History.{Traced, traced}
 use Rattle.st_rules.specs.Names as names
 use Rattle.st_rules.specs.Names.{Names}
@@ -56,6 +40,7 @@ use Rattle.st_laws_volume.specs.Trees.{HasTreesOf}
 use Rattle.st_laws_volume.specs.Witness.{Behind, Witness, now_at, same_text, turn_of}
 use Rattle.st_laws_volume.proofs.Carried.{IsGiven, given_in}
 use Rattle.st_laws_volume.proofs.ChangeLines.{on_both}
+use Rattle.st_laws_volume.proofs.FileReplies.{lacks, removes_not}
 use Rattle.st_laws_volume.proofs.Notices.{Noticed, NoticesHold, each_fixed, notices_begin, notices_kept}
 use Rattle.st_laws_volume.proofs.Options.{on_more}
 use Rattle.st_laws_volume.proofs.Trees.{Nothing, TreesHold, trees_begin, trees_kept}
@@ -67,169 +52,6 @@ use Rattle.st_volume.specs.Pages.{is_any, same_file}
 use Rattle.st_volume.specs.Trees as trees
 use Rattle.st_volume.specs.Volume as volume
 use Rattle.st_volume.specs.Volume.{Pending, Volume, exists, file_of, names_other, noticing}
-
--- Why a server refuses.
-module _ (T : ServerTurn) (now : Stamp) (h : Header) where
-  -- a reply that no file has this inode
-  abbrev pub Missing : ℕ → ℕ → Option Body → Type 0
-  Missing ino n reply = reply ≡ Some (bodies.Nack why.NoFile ino n)
-
-  missing : (i ino n : ℕ) → sv.is_file T i ≡ false → Missing ino n (sv.no_file T i).reply → sv.is_file T ino ≡ false
-  unfolding sv.no_file
-  missing i ino n f q = subst (λ k. sv.is_file T k ≡ false) (same q) f
-    where
-      same : Missing ino n (Some (bodies.Nack why.NoFile i 0)) → i ≡ ino
-      same q = cc
-
-  by_file : (i ino n : ℕ) (found : Replied) → (Missing ino n found.reply → ⊥) →
-      Missing ino n (if sv.is_file T i then found else sv.no_file T i).reply → sv.is_file T ino ≡ false
-  by_file i ino n found none = go (sv.is_file T i) refl
-    where
-      go : (b : Bool) → sv.is_file T i ≡ b → Missing ino n (if b then found else sv.no_file T i).reply → sv.is_file T ino ≡ false
-      go true f q = absurd (none q)
-      go false f q = missing i ino n f q
-
-  by_holder : (b : Bool) (i : ℕ) (g : GrantNo) (ino n : ℕ) (held : Replied) → (Missing ino n held.reply → ⊥) →
-      Missing ino n (if b then held else sv.not_holder T i g).reply → ⊥
-  unfolding sv.not_holder
-  by_holder true i g ino n held none q = none q
-  by_holder false i g ino n held none q = cc q
-
-  locked : (i : ℕ) (mode : Mode) (ino n : ℕ) → Missing ino n (sv.acquire_lock T now h i mode).reply → ⊥
-  unfolding sv.acquire_lock sv.acquire_by
-  locked i mode ino n = go (locks.acquire T.state.locks (sv.sender h) (sv.life_in h) i mode (sv.grants_now T now))
-    where
-      told : (v : Verdict) → Missing ino n (Some (sv.verdict_body i mode v)) → ⊥
-      told (verdicts.Granted g held) q = cc q
-      told (verdicts.Queued clients) q = cc q
-
-      go : (r : Result locks.Acquired AcquireRefusal) → Missing ino n (sv.acquire_by T i mode r).reply → ⊥
-      go (Ok a) q = told a.verdict q
-      go (Err r) q = cc q
-
-  mapped : (i : ℕ) (p : PageNo) (ino n : ℕ) → Missing ino n (sv.map_page T i p).reply → ⊥
-  unfolding sv.map_page
-  mapped i p ino n q = cc q
-
-  allocated : (i : ℕ) (p : PageNo) (count ino n : ℕ) → Missing ino n (sv.allocate_pages T i p count).reply → ⊥
-  unfolding sv.allocate_pages sv.allocate_by sv.with_extents_told
-  allocated i p count ino n = go (extents.allocate T.state.stable.extents (sv.file T i) p count)
-    where
-      refused : (r : AllocateRefusal) → Missing ino n (Some (sv.refused_allocation r)) → ⊥
-      refused (wants.NoSpace free wanted) q = cc q
-
-      go : (r : Result Extents AllocateRefusal) → Missing ino n (sv.allocate_by T i p count r).reply → ⊥
-      go (Ok x) q = cc q
-      go (Err r) q = refused r q
-
-  cut : (i : ℕ) (p : PageNo) (ino n : ℕ) → Missing ino n (sv.cut_from T i p).reply → ⊥
-  unfolding sv.cut_from
-  cut i p ino n q = cc q
-
-  -- names
-  found : (r : Result ℕ EntryRefusal) (ino n : ℕ) → Missing ino n (sv.name_found T r).reply → ⊥
-  unfolding sv.name_found sv.name_refused
-  found (Ok i) ino n q = cc q
-  found (Err r) ino n q = cc q
-
-  changed : (r : Result names.Changed EntryRefusal) (ino n : ℕ) → Missing ino n (sv.name_changed T r).reply → ⊥
-  unfolding sv.name_changed sv.name_refused
-  changed (Ok d) ino n q = cc q
-  changed (Err r) ino n q = cc q
-
-  listed : (r : Result (List NameRow) EntryRefusal) (ino n : ℕ) → Missing ino n (sv.names_listed T r).reply → ⊥
-  unfolding sv.names_listed sv.name_refused
-  listed (Ok rows) ino n q = cc q
-  listed (Err r) ino n q = cc q
-
-  taken_out : (r : Result names.Changed EntryRefusal) (ino n : ℕ) → Missing ino n (sv.remove_by T r).reply → ⊥
-  unfolding sv.remove_by sv.name_refused
-  taken_out (Ok d) ino n q = cc q
-  taken_out (Err r) ino n q = cc q
-
-  emptied : (dir : ℕ) (name : List ℕ) (b : Bool) (ino n : ℕ) →
-      Missing ino n (if b then sv.name_changed T (names.remove T.state.stable.names dir name) else sv.name_refused T IsDir).reply → ⊥
-  unfolding sv.name_refused
-  emptied dir name true ino n q = changed (names.remove T.state.stable.names dir name) ino n q
-  emptied dir name false ino n q = cc q
-
-  removed : (dir : ℕ) (name : List ℕ) (g : GrantNo) (r : Result ℕ EntryRefusal) (ino n : ℕ) → Missing ino n (sv.remove_found T h dir name g r).reply → ⊥
-  unfolding sv.remove_found sv.remove_ino sv.remove_file sv.remove_dir sv.name_refused
-  removed dir name g (Err r) ino n q = cc q
-  removed dir name g (Ok i) ino n q = go (sv.is_file T i) q
-    where
-      go : (b : Bool) → Missing ino n (if b then sv.remove_file T h dir name g i else sv.remove_dir T dir name g).reply → ⊥
-      go true q =
-          by_holder (sv.holds T h i g modes.X) i g ino n (sv.remove_by T (names.remove T.state.stable.names dir name))
-          (taken_out (names.remove T.state.stable.names dir name) ino n) q
-      go false q = emptied dir name (g.0 == 0) ino n q
-
-  named : (op : NameOp) (ino n : ℕ) → Missing ino n (sv.name T h op).reply → ⊥
-  unfolding sv.name sv.remove
-  named (ops.Lookup dir name) ino n q = found (names.lookup T.state.stable.names dir name) ino n q
-  named (ops.Create dir name) ino n q = changed (names.create T.state.stable.names dir name) ino n q
-  named (ops.Mkdir dir name) ino n q = changed (names.mkdir T.state.stable.names dir name) ino n q
-  named (ops.Remove dir name g) ino n q = removed dir name g (names.lookup T.state.stable.names dir name) ino n q
-  named (ops.Rename dir name dir2 name2) ino n q = changed (names.rename T.state.stable.names dir name dir2 name2) ino n q
-  named (ops.List dir after) ino n q = listed (names.list T.state.stable.names dir after) ino n q
-
-  -- only if the file isn't there
-  pub not_there : (b : Body) (ino n : ℕ) → Missing ino n (sv.rule T now h b).reply → sv.is_file T ino ≡ false
-  unfolding sv.rule sv.keep_alive sv.acquire sv.released sv.released_by sv.map sv.map_held sv.allocate sv.allocate_held sv.cut sv.cut_held
-  not_there bodies.KeepAlive ino n q = cc q
-  not_there (bodies.Acquire i mode) ino n q = by_file i ino n (sv.acquire_lock T now h i mode) (locked i mode ino n) q
-  not_there (bodies.Released i g to) ino n q = cc q
-  not_there (bodies.Map i g p) ino n q =
-      by_file i ino n (sv.map_held T h i g p) (by_holder (sv.holds T h i g modes.S) i g ino n (sv.map_page T i p) (mapped i p ino n)) q
-  not_there (bodies.Allocate i g p count) ino n q =
-      by_file i ino n (sv.allocate_held T h i g p count)
-      (by_holder (sv.holds T h i g modes.X) i g ino n (sv.allocate_pages T i p count) (allocated i p count ino n)) q
-  not_there (bodies.Cut i g p) ino n q =
-      by_file i ino n (sv.cut_held T h i g p) (by_holder (sv.holds T h i g modes.X) i g ino n (sv.cut_from T i p) (cut i p ino n)) q
-  not_there (bodies.Name op) ino n q = absurd (named op ino n q)
-  not_there b ino n q = cc q
-
-  -- The file under a name, whose remove is refused.
-  abbrev pub NotHeld : ℕ → ℕ → Option Body → Type 0
-  NotHeld ino n reply = reply ≡ Some (bodies.Nack why.NotHolder ino n)
-
-  abbrev pub IsFileAt : ℕ → List ℕ → ℕ → Type 0
-  IsFileAt dir name ino = (names.lookup T.state.stable.names dir name ≡ Ok ino) × (sv.is_file T ino ≡ true)
-
-  pub file_there : (dir : ℕ) (name : List ℕ) (g : GrantNo) (ino n : ℕ) → NotHeld ino n (sv.rule T now h (bodies.Name (ops.Remove dir name g))).reply →
-      IsFileAt dir name ino
-  unfolding sv.rule sv.name sv.remove sv.remove_found sv.remove_ino sv.remove_file sv.remove_dir sv.remove_by sv.name_changed sv.name_refused sv.not_holder
-  file_there dir name g ino n = go (names.lookup T.state.stable.names dir name) refl
-    where
-      change : (r : Result names.Changed EntryRefusal) → NotHeld ino n (sv.name_changed T r).reply → ⊥
-      change (Ok d) q = cc q
-      change (Err r) q = cc q
-
-      empty : (b : Bool) → NotHeld ino n (if b then sv.name_changed T (names.remove T.state.stable.names dir name) else sv.name_refused T IsDir).reply → ⊥
-      empty true q = change (names.remove T.state.stable.names dir name) q
-      empty false q = cc q
-
-      gone : (r : Result names.Changed EntryRefusal) → NotHeld ino n (sv.remove_by T r).reply → ⊥
-      gone (Ok d) q = cc q
-      gone (Err r) q = cc q
-
-      by : (i : ℕ) → names.lookup T.state.stable.names dir name ≡ Ok i → sv.is_file T i ≡ true → (b : Bool) →
-          NotHeld ino n (if b then sv.remove_by T (names.remove T.state.stable.names dir name) else sv.not_holder T i g).reply → IsFileAt dir name ino
-      by i e f true q = absurd (gone (names.remove T.state.stable.names dir name) q)
-      by i e f false q = subst (IsFileAt dir name) (same q) (e, f)
-        where
-          same : NotHeld ino n (Some (bodies.Nack why.NotHolder i g.0)) → i ≡ ino
-          same q = cc
-
-      kind : (i : ℕ) → names.lookup T.state.stable.names dir name ≡ Ok i → (b : Bool) → sv.is_file T i ≡ b →
-          NotHeld ino n (if b then sv.remove_file T h dir name g i else sv.remove_dir T dir name g).reply → IsFileAt dir name ino
-      kind i e true f q = by i e f (sv.holds T h i g modes.X) q
-      kind i e false f q = absurd (empty (g.0 == 0) q)
-
-      go : (r : Result ℕ EntryRefusal) → names.lookup T.state.stable.names dir name ≡ r → NotHeld ino n (sv.remove_found T h dir name g r).reply →
-          IsFileAt dir name ino
-      go (Err r) e q = cc q
-      go (Ok i) e q = kind i e (sv.is_file T i) refl q
 
 -- What the tree of a server tells the open asks.
 module _ (t : World) (sound : AllSound t) (bs : List Behind) (v : Volume) (agree : HasTreesOf t v) (noticed : Noticed v) (s : ServerId) (node : ServerNode)
@@ -314,12 +136,11 @@ module _ (t : World) (sound : AllSound t) (bs : List Behind) (v : Volume) (agree
           missed = λ ino k q above a i f.
               has_missed ino
               (ap (λ x. names.is_file x ino) (sym same_names)
-              ∙ not_there T now m.header m.body ino k (replied node.running _ (bodies.Nack why.NoFile ino k) q)) above a i f;
+              ∙ (lacks T now m.header m.body ino k (replied node.running _ (bodies.Nack why.NoFile ino k) q)).none) above a i f;
           other = λ dir name g ino k is q a i f.
-              let z = file_there T now m.header dir name g ino k
-              (subst (λ b. (sv.rule T now m.header b).reply ≡ Some (bodies.Nack why.NotHolder ino k)) is
-              (replied node.running _ (bodies.Nack why.NotHolder ino k) q)) in
-              has_other dir name ino (ap (λ x. names.lookup x dir name) (sym same_names) ∙ z.0) (ap (λ x. names.is_file x ino) (sym same_names) ∙ z.1) a i f;
+              let z = removes_not T now m.header m.body dir name g ino k is (replied node.running _ (bodies.Nack why.NotHolder ino k) q) in
+              has_other dir name ino (ap (λ x. names.lookup x dir name) (sym same_names) ∙ z.found)
+              (ap (λ x. names.is_file x ino) (sym same_names) ∙ z.file) a i f;
         }
 
 -- At each event.

@@ -13,10 +13,10 @@ use Rattle.st_lemmas.specs.Lists.{Has}
 use Rattle.st_laws_names.specs.Keys.{behind_thefts, now_at}
 use Rattle.st_laws_volume.specs.Logs.{InEveryRun}
 use Rattle.st_laws_volume.specs.Refusals.{HaveNoticedAt, HaveNoticedReply, NoticesStay, RepliesStayNoticed}
+use Rattle.st_laws_volume.proofs.FileReplies.{lacks, removes_not}
 use Rattle.st_laws_volume.proofs.NoticesStay.{notices_stay}
 use Rattle.st_laws_volume.proofs.Options.{on_more}
 use Rattle.st_laws_volume.proofs.ReadPages.{throughout_more}
-use Rattle.st_laws_volume.proofs.RefusalNotices.{file_there, not_there}
 use Rattle.st_laws_volume.proofs.TreeTurns.{thefts_stable}
 use Rattle.st_volume.specs.Volume.{Volume}
 
@@ -31,17 +31,15 @@ reply_noticed y v h =
           let r = z.serves in
           h.missed s r.old ino r.was
           (sym (ap (λ x. names.is_file x ino) (same_names y.before.world s r.old))
-          ∙ not_there (behind_thefts y.before.world s r.old.state) (now_at y.before.world s) z.sent.message.header z.sent.message.body ino n r.replied)
+          ∙ (lacks (behind_thefts y.before.world s r.old.state) (now_at y.before.world s) z.sent.message.header z.sent.message.body ino n r.replied).none)
           above a i l q;
       other = λ c s life epoch number dir name g ino n z is a i l q.
           let r = z.serves in
           let e = same_names y.before.world s r.old in
           let f =
-          file_there (behind_thefts y.before.world s r.old.state) (now_at y.before.world s) z.sent.message.header dir name g ino n
-          (subst
-          (λ b. (sv.rule (behind_thefts y.before.world s r.old.state) (now_at y.before.world s) z.sent.message.header b).reply
-          ≡ Some (bodies.Nack why.NotHolder ino n)) is r.replied) in
-          h.other s r.old dir name ino r.was (sym (ap (λ x. names.lookup x dir name) e) ∙ f.0) (sym (ap (λ x. names.is_file x ino) e) ∙ f.1) a i l q;
+          removes_not (behind_thefts y.before.world s r.old.state) (now_at y.before.world s) z.sent.message.header z.sent.message.body dir name g ino n is
+          r.replied in
+          h.other s r.old dir name ino r.was (sym (ap (λ x. names.lookup x dir name) e) ∙ f.found) (sym (ap (λ x. names.is_file x ino) e) ∙ f.file) a i l q;
     }
 
 pub replies_stay_noticed : InEveryRun RepliesStayNoticed

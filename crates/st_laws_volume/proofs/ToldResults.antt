@@ -65,6 +65,7 @@ use Rattle.st_laws_volume.proofs.AsksTaken.{all_other, is_other}
 use Rattle.st_laws_volume.proofs.Carried.{IsGiven, given_in}
 use Rattle.st_laws_volume.proofs.ChangeLines.{block_other, on_both, taken_both}
 use Rattle.st_laws_volume.proofs.LogLines.{run_then}
+use Rattle.st_laws_volume.proofs.NameReplies.{IsNamed, NameReplied, RemovesNot, name_replied}
 use Rattle.st_laws_volume.proofs.OpenAnswers.{Open, block, block_open, first_open, open_left, served_open}
 use Rattle.st_laws_volume.proofs.Options.{on_all, on_if, on_more, on_then, on_true}
 use Rattle.st_laws_volume.proofs.ReadPages.{InRange, all_in_range, throughout_both}
@@ -102,53 +103,16 @@ abbrev NoNames : Option Body → Type 0
 NoNames (Some (bodies.Named reply)) = ⊥
 NoNames o = Unit {0}
 
-found_no : (t : ServerTurn) (r : Result ℕ EntryRefusal) → NoAck (sv.name_found t r).reply
-unfolding sv.name_found sv.name_refused
-found_no t (Ok ino) = tt
-found_no t (Err r) = tt
-
-changed_no : (t : ServerTurn) (r : Result names.Changed EntryRefusal) → NoAck (sv.name_changed t r).reply
-unfolding sv.name_changed sv.name_refused
-changed_no t (Ok d) = tt
-changed_no t (Err r) = tt
-
-listed_no : (t : ServerTurn) (r : Result (List NameRow) EntryRefusal) → NoAck (sv.names_listed t r).reply
-unfolding sv.names_listed sv.name_refused
-listed_no t (Ok rows) = tt
-listed_no t (Err r) = tt
-
-removed_no : (t : ServerTurn) (h : Header) (dir : ℕ) (name : List ℕ) (g : GrantNo) (r : Result ℕ EntryRefusal) → NoAck (sv.remove_found t h dir name g r).reply
-unfolding sv.remove_found sv.remove_ino sv.remove_file sv.remove_dir sv.remove_by sv.name_refused sv.not_holder
-removed_no t h dir name g (Err r) = tt
-removed_no t h dir name g (Ok there) = kind (sv.is_file t there)
-  where
-    by : (r : Result names.Changed EntryRefusal) → NoAck (sv.remove_by t r).reply
-    by (Ok d) = tt
-    by (Err r) = tt
-
-    held : (b : Bool) → NoAck (if b then sv.remove_by t (names.remove t.state.stable.names dir name) else sv.not_holder t there g).reply
-    held true = by (names.remove t.state.stable.names dir name)
-    held false = tt
-
-    none : (b : Bool) → NoAck (if b then sv.name_changed t (names.remove t.state.stable.names dir name) else sv.name_refused t refusals.IsDir).reply
-    none true = changed_no t (names.remove t.state.stable.names dir name)
-    none false = tt
-
-    kind : (b : Bool) → NoAck (if b then sv.remove_file t h dir name g there else sv.remove_dir t dir name g).reply
-    kind true = held (sv.holds t h there g modes.X)
-    kind false = none (g.0 == 0)
+named_no : (t : ServerTurn) (h : Header) (op : NameOp) (r : Option Body) → NameReplied t h op r → NoAck r
+named_no t h op _ (IsNamed reply) = tt
+named_no t h op _ (RemovesNot dir name g ino is l f k) = tt
 
 name_no : (t : ServerTurn) (now : Stamp) (h : Header) (op : NameOp) → NoAck (sv.rule t now h (bodies.Name op)).reply
-unfolding sv.rule sv.name sv.remove
-name_no t now h (ops.Lookup dir n) = found_no t (names.lookup t.state.stable.names dir n)
-name_no t now h (ops.Create dir n) = changed_no t (names.create t.state.stable.names dir n)
-name_no t now h (ops.Mkdir dir n) = changed_no t (names.mkdir t.state.stable.names dir n)
-name_no t now h (ops.Remove dir n g) = removed_no t h dir n g (names.lookup t.state.stable.names dir n)
-name_no t now h (ops.Rename dir n dir2 n2) = changed_no t (names.rename t.state.stable.names dir n dir2 n2)
-name_no t now h (ops.List dir after) = listed_no t (names.list t.state.stable.names dir after)
+unfolding sv.rule
+name_no t now h op = named_no t h op (sv.name t h op).reply (name_replied t h op)
 
 cut_no : (t : ServerTurn) (now : Stamp) (h : Header) (ino : ℕ) (g : GrantNo) (from : PageNo) → NoNames (sv.rule t now h (bodies.Cut ino g from)).reply
-unfolding sv.rule sv.cut sv.cut_held sv.cut_from sv.not_holder sv.no_file
+unfolding sv.rule sv.cut sv.cut_held sv.cut_from sv.no_file sv.not_holder
 cut_no t now h ino g from = file (sv.is_file t ino)
   where
     held : (b : Bool) → NoNames (if b then sv.cut_from t ino from else sv.not_holder t ino g).reply
