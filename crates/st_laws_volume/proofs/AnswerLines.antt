@@ -1,22 +1,17 @@
 -- Lines of an event, taken one after another: each answer is taken if it fits the ask that it answers.
-use Rattle.std.proofs.Common.{◌≡◌, ℕ, ◌+◌, Bool, true, false, ◌==◌, List, [], ◌∷◌, ◌++◌, map, Option, Some, None, refl, sym, ap, ◌∙◌, subst, append_assoc, if◌then◌else◌}
+use Rattle.std.proofs.Common.{◌≡◌, ℕ, ◌+◌, Bool, true, false, ◌==◌, List, [], ◌∷◌, ◌++◌, map, Option, Some, None, refl, sym, ap, ◌∙◌, subst, inl, inr, append_assoc}
 use Rattle.std.specs.Prelude.{find, is_some, option_and_then}
 use Rattle.std.specs.List.{list_all}
 use Rattle.std.proofs.lemmas.Bool.{eq-eqb, eqb-true}
 use Rattle.std.proofs.lemmas.List.{append-nil}
 use Rattle.st_base.specs.declared.ids.ClientId.{ClientId}
-use Rattle.st_base.specs.declared.ids.NodeId.{NodeId}
-use Rattle.st_base.specs.declared.ids.NodeId.TheVariants as nodes
 use Rattle.st_messages.specs.declared.answer.AppAnswer.{AppAnswer}
 use Rattle.st_messages.specs.declared.ask.Ask.{Ask}
 use Rattle.st_messages.specs.declared.ask.Ask.TheVariants as asks
 use Rattle.st_messages.specs.declared.event.Event.{Event}
-use Rattle.st_messages.specs.declared.event.Event.TheVariants as events
-use Rattle.st_messages.specs.declared.message.Message.{Message}
 use Rattle.st_rules.specs.declared.client.ClientInput.{ClientInput}
 use Rattle.st_rules.specs.declared.observation.Observation.{Observation}
 use Rattle.st_rules.specs.declared.observation.Observation.TheVariants as seen
-use Rattle.st_rules.specs.declared.world.SentMessage.{SentMessage}
 use Rattle.st_rules.specs.Safety.{Step, step}
 use Rattle.st_rules.specs.World as world
 use Rattle.st_rules.specs.World.{World, WorldClient, site_of}
@@ -248,6 +243,29 @@ at_parts fact (x ∷ xs) ys u h = let z = go (volume.step u x) h.1 (λ y a. at_p
         OnSome (AtEachStep fact xs) o × OnSome (AtEachStep fact ys) (option_and_then (run xs) o)
     go None a f = (tt, tt)
     go (Some y) a f = f y a
+
+-- A fact of each line's answer, by another one.
+module _ (goal : VolumeStep → Volume → Type 0) (of : OfAnswers goal) (fact : VolumeStep → Volume → Type 0) (w : World) (In : Observation → Type 0)
+    (one : (c : ClientId) (op : ℕ) (a : AppAnswer) → In (seen.Answered c op a) → (u : Volume) → fact (kinds.Answered c op a) u → goal (kinds.Answered c op a) u) where
+  its_fact : (c : ClientId) (op : ℕ) (a : AppAnswer) (os : List Observation) (u : Volume) → AtEachStep fact (block w (seen.Answered c op a) os) u →
+      fact (kinds.Answered c op a) u
+  unfolding before_line of_line AtEachStep
+  its_fact c op a os u h = h.0
+
+  pub lines_more : (os : List Observation) → ((o : Observation) → Has o os → In o) → (u : Volume) → AtEachStep fact (of_lines w os) u →
+      AtEachStep goal (of_lines w os) u
+  unfolding of_lines AtEachStep
+  lines_more [] i u m = tt
+  lines_more (o ∷ os) i u m =
+      let n =
+      at_parts fact (block w o os) (of_lines w os) u
+      (subst (λ its. AtEachStep fact its u) (sym (append_assoc (before_line o os) (of_line w o) (of_lines w os))) m) in
+      subst (λ its. AtEachStep goal its u) (append_assoc (before_line o os) (of_line w o) (of_lines w os))
+      (at_both goal (block w o os) (of_lines w os) u
+      (block_by goal of w o os u
+      (λ c op a e. one c op a (subst In e (i o (inl refl))) u (its_fact c op a os u (subst (λ y. AtEachStep fact (block w y os) u) e n.0))))
+      (on_more (AtEachStep fact (of_lines w os)) (AtEachStep goal (of_lines w os)) (λ y k. lines_more os (λ x j. i x (inr j)) y k) (run (block w o os) u)
+      n.1))
 
 -- An answer that fits has the wanted fact: it goes to an open ask.
 abbrev pub IsFineBy : (VolumeStep → Volume → Type 0) → (VolumeStep → Volume → Type 0) → (Given → Type 0) → Asked → Type 0

@@ -137,6 +137,7 @@ pub mod TreeTurns
 pub mod TreeWorld
 pub mod Trees
 pub mod UncertainAnswers
+pub mod UnresultedAnswers
 pub mod UnservedAsks
 pub mod WaitingChanges
 pub mod WriteOrder

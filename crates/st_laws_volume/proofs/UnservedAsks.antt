@@ -1,10 +1,11 @@
 -- In every run a request that a server serves finds no result: the ask that it belongs to has not taken effect yet.
 use Rattle.st_lemmas.proofs.Words
 use Words.{◌≡◌, ◌⊎◌, ℕ, ◌+◌, arith, Bool, true, false, ◌&&◌, ◌==◌, List, [], ◌∷◌, ◌++◌, length, Option, Some, None, Ok, refl, sym, ap, ◌∙◌, subst, inl, inr, if◌then◌else◌}
-use Words.{eqb-true, find, is_some, list_all, option_and_then, option_map, AppAnswer, ClientId, Event, Message, NodeId, Observation, SentMessage, ServerId}
+use Words.{eqb-true, find, is_some, list_all, option_and_then, option_map, AppAnswer, Body, ClientId, Event, Message, NodeId, SentMessage, ServerId}
+use Words.bodies
 use Words.events
 use Words.nodes
-use Words.ClientState.{asks_cut_or_name}
+use Words.ClientState.{asks_cut_or_name, is_refusal}
 use Words.Events.{WorldTurn, world_step}
 use Words.History.{Traced, traced, traced_after}
 use Words.Keys.{client, server_node}
@@ -14,9 +15,9 @@ use Words.Members.{has_left}
 use Words.Numbers.{numbered_has}
 use Words.Safety.{AsksAreAnsweredOnce, IsHead, Promise, Step, Throughout, all_answered_once, all_followed, is_event, step, steps}
 use Words.Server as sv
-use Words.Server.{ServerNode, sender}
-use Words.Tables.{and_true, found_at, has_map_in}
-use Words.Truth.{client_is, clash}
+use Words.Server.{ServerNode}
+use Words.Tables.{and_true, has_append, has_map_in}
+use Words.Truth.{client_is}
 use Words.World.{World, fresh_world, message_of, node_of, receiver_of}
 use Rattle.st_base.specs.declared.config.Config.{Config}
 use Rattle.st_protocol.specs.Assoc as net
@@ -29,13 +30,14 @@ use Rattle.st_laws_requests.specs.Cuts.Cuts.{Keyed}
 use Rattle.st_laws_cuts.specs.EndedRequests.{AllPast}
 use Rattle.st_laws_cuts.specs.ServedRequests.{IsServedBy}
 use Rattle.st_laws_cuts.proofs.OverAfter.{past_on}
+use Rattle.st_laws_names.specs.Keys.{ServedAt}
 use Rattle.st_laws_names.specs.OutstandingKeys.{KeysHaveOneOperation, SameKey, WaitsUnder}
 use Rattle.st_laws_names.proofs.Behind.{not_past}
 use Rattle.st_laws_names.proofs.Changes.{past_same}
 use Rattle.st_laws_names.proofs.Facts.{FactsHold, facts_begin, facts_on, operations_law}
 use Rattle.st_laws_names.proofs.Keys.{key_back, keyed_same}
 use Rattle.st_laws_names.proofs.Rows.{worlds_on}
-use Rattle.st_laws_names.proofs.World.{Asked, Worlds}
+use Rattle.st_laws_names.proofs.World.{Asked}
 use Rattle.st_laws_volume.specs.Logs.{InEveryRun}
 use Rattle.st_laws_volume.specs.Options.{OnSome}
 use Rattle.st_laws_volume.specs.Requests.{AtNode, FindsNone, OfDelivery, OfMessage, RequestsFindNone}
@@ -50,15 +52,21 @@ use Rattle.st_laws_volume.proofs.RequestAsks.{GhostHolds, Grants, HasKey, cut_or
 use Rattle.st_laws_volume.proofs.ServedEnds.{ends_there}
 use Rattle.st_laws_volume.proofs.ToldSteps.{event_kept}
 use Rattle.st_laws_volume.proofs.TreeSteps.{none_above}
-use Rattle.st_volume.specs.declared.step.VolumeStep.{VolumeStep}
 use Rattle.st_volume.specs.declared.step.VolumeStep.TheVariants as kinds
 use Rattle.st_volume.specs.Volume as volume
 use Rattle.st_volume.specs.Volume.{Pending, Volume, is_ask, run}
 
--- The request of an operation was served: no server serves its key again.
+-- The request of an operation was served, and not refused: no server serves its key again.
 pub record WasServed (past : List Step) (w : World) (c : ClientId) (op : ℕ) : Type 0 where
   pub k : Asked past w c op
   pub over : (m : Message) → Keyed c k.server k.life_ k.epoch_ k.number_ m → AllPast w c k.server m
+  pub done : (y : Step) → Has y past → (reply : Body) → ServedAt y c k.server k.life_ k.epoch_ k.number_ reply → is_refusal reply ≡ false
+
+-- what is done isn't refused
+done_kept : (b reply : Body) → is_done_as b (Some reply) ≡ true → is_refusal reply ≡ false
+done_kept (bodies.Cut ino g from) bodies.Ack q = refl
+done_kept (bodies.Name op) (bodies.Named reply) q = refl
+done_kept b reply q = cc q
 
 pub record NoneHold (k : net.Config) (count : ℕ) (past : List Step) (t : Traced) (it : Witness) : Type 0 where
   pub facts : FactsHold k count past t
@@ -102,7 +110,22 @@ module _ (k : net.Config) (count : ℕ) (past : List Step) (t : Traced) (e : Eve
               waits = z.k.waits;
             };
         over = λ m y. past_on k count past t e sc ranges h.facts.changes_.names_.all.base taken c z.k.server m (z.over m y);
+        done = λ y i. go y (has_append past (step t e sc ∷ []) y i);
       }
+    where
+      Kept : Step → Type 0
+      Kept y = (reply : Body) → ServedAt y c z.k.server z.k.life_ z.k.epoch_ z.k.number_ reply → is_refusal reply ≡ false
+
+      now : Kept (step t e sc)
+      now reply a =
+          absurd
+          (not_past c a.serves.old a.sent.message a.serves.served a.serves.running a.serves.keyed.between.0
+          (z.over a.sent.message a.serves.keyed a.serves.old a.serves.was))
+
+      go : (y : Step) → Has y past ⊎ Has y (step t e sc ∷ []) → Kept y
+      go y (inl i) = z.done y i
+      go y (inr (inl q)) = subst Kept (sym q) now
+      go y (inr (inr i)) = absurd i
 
   -- A request that a server serves.
   module _ (s : ServerId) (node : ServerNode) (at : node_of w s ≡ Some node) (m : Message) (among : Has m (messages w))
@@ -188,7 +211,45 @@ module _ (k : net.Config) (count : ℕ) (past : List Step) (t : Traced) (e : Eve
               (subst (λ (x : Message). AllPast sc.world (client x.header.from) s x) same
               (ends_there w e sc taken s j sent d is to node at id (subst (λ (x : Message). does_at w s (Some node) x ≡ true) (sym same) done)
               (subst (λ (x : Message). asks_cut_or_name x.body ≡ true) (sym same) own)) v there);
+          done = λ y i. go y (has_append past (step t e sc ∷ []) y i);
         }
+      where
+        Kept : Step → Type 0
+        Kept y =
+            (reply : Body) → ServedAt y (client m.header.from) s m.header.life m.header.epoch m.header.number reply → is_refusal reply ≡ false
+
+        earlier : (y : Step) → Has y past → Kept y
+        earlier y i reply a =
+            absurd
+            (not_past (client m.header.from) node m served runs.0 refl
+            (past_same (client m.header.from) node a.sent.message m a.serves.keyed.of_life a.serves.keyed.of_epoch a.serves.keyed.under
+            (h.facts.changes_.pairs.pasts y i (client m.header.from) s a.sent.message a.serves.gone node at)))
+
+        replies : ServerNode → Message → Option Body
+        replies n p = (sv.rule (turn_of n (now_at w s)) (now_at w s) p.header p.body).reply
+
+        now : Kept (step t e sc)
+        now reply a =
+            done_kept m.body reply (subst (λ o. is_done_as m.body o ≡ true) (sym there) does_it.1)
+          where
+            index : a.index ≡ j
+            index = of_deliver (sym a.delivers ∙ d)
+              where
+                of_deliver : {i k : ℕ} → events.Deliver i ≡ events.Deliver k → i ≡ k
+                of_deliver q = cc q
+
+            message : a.sent.message ≡ m
+            message = ap (λ (x : SentMessage). x.message) (some_is (sym a.is ∙ (ap (message_of w) index ∙ is))) ∙ same
+
+            there : Some reply ≡ replies node m
+            there =
+                sym a.serves.replied
+                ∙ (ap (λ n. replies n a.sent.message) (some_is (sym a.serves.was ∙ at)) ∙ ap (replies node) message)
+
+        go : (y : Step) → Has y past ⊎ Has y (step t e sc ∷ []) → Kept y
+        go y (inl i) = earlier y i
+        go y (inr (inl q)) = subst Kept (sym q) now
+        go y (inr (inr i)) = absurd i
 
     -- what its effect leaves
     served_fine : WasServed past2 sc.world (client m.header.from) key.behind.op → (v : Volume) → AllFine (WasServed past2 sc.world) None v →

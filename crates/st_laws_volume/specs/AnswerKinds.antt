@@ -1,9 +1,10 @@
 -- Kinds of answers: the steps of the volume that give them.
-use Rattle.std.specs.Prelude.{◌≡◌, Bool, true, false, ◌&&◌, ◌||◌, not, nat_le, nat_lt, List, Some, find, is_some, length, ⊤}
+use Rattle.std.specs.Prelude.{◌≡◌, Bool, true, false, ◌&&◌, ◌||◌, not, nat_le, nat_lt, List, None, Some, find, is_some, length, ⊤}
 use Rattle.std.specs.List.{list_any}
 use Rattle.st_base.specs.declared.rows.LostRow.{LostRow}
 use Rattle.st_messages.specs.declared.answer.AppAnswer.TheVariants as answers
 use Rattle.st_rules.specs.Safety.{Promise}
+use Rattle.st_laws_volume.specs.ResultAnswers.{tells_result}
 use Rattle.st_laws_volume.specs.Results.{may_have_result}
 use Rattle.st_laws_volume.specs.StepKinds.{AtEachStepOf}
 use Rattle.st_volume.specs.declared.step.VolumeStep.{VolumeStep}
@@ -44,6 +45,17 @@ ResultFits it v = ⊤
 -- Files are answered without results: at each answer, if the volume has taken all steps before it.
 abbrev pub FilesAreAnsweredWithoutResults : Promise
 FilesAreAnsweredWithoutResults = AtEachStepOf ResultFits
+
+-- An answer that tells no result goes to an ask that has none, unless it is `uncertain`; `written` is told just after the effect.
+abbrev pub IsOfUndone : VolumeStep → Volume → Type 0
+IsOfUndone (kinds.Answered c op answers.Written) v = ⊤
+IsOfUndone (kinds.Answered c op (answers.Uncertain old new)) v = ⊤
+IsOfUndone (kinds.Answered c op answer) v = tells_result answer ≡ false → (a : Pending) → find (is_ask c op) v.pending ≡ Some a → a.result ≡ None
+IsOfUndone it v = ⊤
+
+-- Results are answered: at each answer, if the volume has taken all steps before it.
+abbrev pub ResultsAreAnswered : Promise
+ResultsAreAnswered = AtEachStepOf IsOfUndone
 
 -- A sync that has no result is answered `lost` with at least one row; the rows rise by page; and unless they are 1,024, no dropped entry of the file is left of
 -- which the client was not told.

@@ -3,7 +3,7 @@
 //! volume has taken the steps" don't say that it takes them.
 #![tactic(auto)]
 
-ghost use Rattle.st_laws_volume.specs.AnswerKinds.{FilesAreAnsweredWithoutResults, LossesAreToldWhole, is_disk_fault, is_lost_answer, is_opsfull, is_quiesced, is_uncertain};
+ghost use Rattle.st_laws_volume.specs.AnswerKinds.{FilesAreAnsweredWithoutResults, LossesAreToldWhole, ResultsAreAnswered, is_disk_fault, is_lost_answer, is_opsfull, is_quiesced, is_uncertain};
 ghost use Rattle.st_laws_volume.specs.AskedAsks.{AsksAreAsAsked};
 ghost use Rattle.st_laws_volume.specs.Asks.{AsksAgree};
 ghost use Rattle.st_laws_volume.specs.DirtyEntries.{DirtyPagesHaveEntries, FullClientsAreFull};
@@ -313,6 +313,12 @@ pub fn hard_files_are_clean()
 /// that has no result, if the volume has taken all steps before it.
 pub fn files_are_answered_without_results()
     ensures { InEveryRun FilesAreAnsweredWithoutResults }
+{}
+
+/// In every run each answer that tells no result goes to an ask that has none, if the volume has
+/// taken all steps before it: all answers but `uncertain`, and `written`, which follows its effect.
+pub fn results_are_answered()
+    ensures { InEveryRun ResultsAreAnswered }
 {}
 
 /// In every run the volume takes each answer `diskfault`, if it has taken all steps before it: the
