@@ -1,6 +1,6 @@
 -- Why a server refuses a request: what it replies by the rule of the request, and what holds then.
 use Rattle.st_lemmas.proofs.Words
-use Words.{◌≡◌, ℕ, Bool, true, false, List, [], Option, Some, None, Ok, Err, refl, sym, ap, ◌∙◌, subst, if◌then◌else◌, Result, Body, GrantNo, Header, Mode, NameOp}
+use Words.{◌≡◌, ℕ, true, false, List, [], Option, Some, None, Ok, Err, refl, sym, ap, ◌∙◌, subst, if◌then◌else◌, Result, Body, GrantNo, Header, Mode, NameOp}
 use Words.{AcquireRefusal, AllocateRefusal, PageNo, Stamp, Verdict, Why}
 use Words.bodies
 use Words.modes

@@ -49,7 +49,7 @@ use Rattle.st_laws_volume.proofs.Trees.{Nothing, TreesHold, trees_begin, trees_k
 use Rattle.st_laws_volume.proofs.TreeWorld.{at_client_servers, event_same, is_delivery, node_after, stopped_servers, took_servers}
 
 -- Gone: the inode was given, and no file has it.
-abbrev Gone : Names → ℕ → Type 0
+abbrev pub Gone : Names → ℕ → Type 0
 Gone n ino = (ino < n.next) × ((e : NameEntry) → Has e n.entries → e.ino ≡ ino → e.directory ≡ true)
 
 module _ (n : Names) (ino : ℕ) (h : Gone n ino) where
@@ -189,7 +189,7 @@ gone_file n s ino f l = (l, λ e i q. turned e.directory (sym (file_at n s e i) 
     turned true q = refl
     turned false q = cc q
 
-no_file : (n : Names) (ino : ℕ) → Gone n ino → names.is_file n ino ≡ false
+pub no_file : (n : Names) (ino : ℕ) → Gone n ino → names.is_file n ino ≡ false
 no_file n ino h = root (ino == names.ROOT)
   where
     entry : (o : Option NameEntry) → names.entry_of_ino n ino ≡ o → not (unwrap_or (option_map names.directory_mark o) true) ≡ false
@@ -202,7 +202,7 @@ no_file n ino h = root (ino == names.ROOT)
     root false = entry (names.entry_of_ino n ino) refl
 
 -- The servers after an event.
-abbrev names_at : ServerNode → Names
+abbrev pub names_at : ServerNode → Names
 names_at node = node.state.stable.names
 
 record CameFrom (t : World) (s : ServerId) (new : ServerNode) : Type 0 where
@@ -304,16 +304,16 @@ module _ (t : World) where
   came (events.Start n) = plain (events.Start n) refl
 
 -- What is carried: what was gone as a step began is gone now.
-abbrev StayGone : Step → World → Type 0
+abbrev pub StayGone : Step → World → Type 0
 StayGone y w =
     (s : ServerId) (before after : ServerNode) (ino : ℕ) → node_of y.before.world s ≡ Some before → names.is_file (names_at before) ino ≡ false →
     ino < (names_at before).next → node_of w s ≡ Some after → Gone (names_at after) ino
 
-record GoneHold (past : List Step) (t : Traced) (it : Witness) : Type 0 where
-  trees_ : TreesHold past t it
-  gone : (y : Step) → Has y past → StayGone y t.world
+pub record GoneHold (past : List Step) (t : Traced) (it : Witness) : Type 0 where
+  pub trees_ : TreesHold past t it
+  pub gone : (y : Step) → Has y past → StayGone y t.world
 
-gone_kept : IsKept Nothing GoneHold
+pub gone_kept : IsKept Nothing GoneHold
 gone_kept past t e sc it f g h =
     record { trees_ = trees_kept past t e sc it f tt h.trees_; gone = λ y i. go y (has_append past (step t e sc ∷ []) y i) }
   where

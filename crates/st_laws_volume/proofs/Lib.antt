@@ -79,6 +79,7 @@ pub mod LostRows
 pub mod MappedFiles
 pub mod MarksStay
 pub mod NameReplies
+pub mod NoFileAnswers
 pub mod Notices
 pub mod NoticesStay
 pub mod OpenAnswers
@@ -103,6 +104,7 @@ pub mod ReadPatches
 pub mod ReadRanges
 pub mod ReadSessions
 pub mod RefusalNotices
+pub mod RefusedRequests
 pub mod RemoveGrants
 pub mod RepliesNoticed
 pub mod RequestAsks
@@ -121,6 +123,7 @@ pub mod SessionEpochs
 pub mod Shown
 pub mod SoonerAsks
 pub mod Start
+pub mod StepAnswers
 pub mod StepKinds
 pub mod StuckNames
 pub mod StuckSites

@@ -149,7 +149,7 @@ module _ (c : ClientId) (n : ℕ) (which : Ask → Bool) (pick : Bool → Bool �
   acts_marked v (kinds.ReadFailed d s number) h = (failed_marks d number (is_read_of s) v.pending h.0, h.1)
   acts_marked v (kinds.Joined i d what) h = tt
 
-  step_marked : (v : Volume) (it : VolumeStep) → AllMarked v → OnSome AllMarked (volume.step v it)
+  pub step_marked : (v : Volume) (it : VolumeStep) → AllMarked v → OnSome AllMarked (volume.step v it)
   step_marked v (kinds.Joined i d what) h = on_if AllMarked _ (Some (record v { lines = i })) h
   step_marked v (kinds.Asked d ask) h = on_if AllMarked (v.lines == length v.log) (acts v (kinds.Asked d ask)) (acts_marked v (kinds.Asked d ask) h)
   step_marked v (kinds.TakesEffect d number) h =
@@ -166,7 +166,7 @@ module _ (c : ClientId) (n : ℕ) (which : Ask → Bool) (pick : Bool → Bool �
   step_marked v (kinds.ReadFailed d s number) h =
       on_if AllMarked (v.lines == length v.log) (acts v (kinds.ReadFailed d s number)) (acts_marked v (kinds.ReadFailed d s number) h)
 
-  run_marked : (its : List VolumeStep) (v : Volume) → AllMarked v → OnSome AllMarked (run its v)
+  pub run_marked : (its : List VolumeStep) (v : Volume) → AllMarked v → OnSome AllMarked (run its v)
   unfolding run
   run_marked [] v h = h
   run_marked (it ∷ its) v h =

@@ -1,6 +1,6 @@
 -- What a server replies to a request for a name: what names say, or that the client doesn't hold the file that it should remove.
 use Rattle.st_lemmas.proofs.Words
-use Words.{◌≡◌, ℕ, ◌==◌, Bool, true, false, List, Option, Some, None, Ok, Err, refl, Result, Body, EntryRefusal, GrantNo, Header, NameOp, NameReply, NameRow}
+use Words.{◌≡◌, ℕ, ◌==◌, true, false, List, Option, Some, Ok, Err, refl, Result, Body, EntryRefusal, GrantNo, Header, NameOp, NameReply, NameRow}
 use Words.bodies
 use Words.modes
 use Words.ops

@@ -2,6 +2,7 @@
 use Rattle.std.proofs.Common.{◌≡◌, ◌≤◌, ◌⊎◌, arith, ℕ, Bool, true, false, not, ◌&&◌, ◌||◌, ◌==◌, List, [], ◌∷◌, ◌++◌, length, Option, Some, None, Ok, refl, sym, ap, ◌∙◌, subst, inl, inr}
 use Rattle.std.specs.Prelude.{filter, nat_le, nat_lt}
 use Rattle.std.proofs.lemmas.Bool.{eq-eqb, le-leb}
+use Rattle.st_base.specs.declared.config.Config.{Config}
 use Rattle.st_base.specs.declared.ids.ClientId.{ClientId}
 use Rattle.st_base.specs.declared.ids.ServerId.{ServerId}
 use Rattle.st_messages.specs.declared.ask.Ask.{Ask}
@@ -22,7 +23,7 @@ use Rattle.st_laws_volume.specs.Logs.{InEveryRun}
 use Rattle.st_laws_volume.specs.Options.{OnSome}
 use Rattle.st_laws_volume.specs.Refusals.{HaveNoticedAt, NoticesStay, asks_before, removes_other}
 use Rattle.st_laws_volume.specs.Trees.{HasTreesOf}
-use Rattle.st_laws_volume.specs.Witness.{Behind, Witness, led_by, volume_after}
+use Rattle.st_laws_volume.specs.Witness.{Behind, Witness, begun, led_by, volume_after}
 use Rattle.st_laws_volume.proofs.Asks.{AsksHold, asks_begin, asks_kept}
 use Rattle.st_laws_volume.proofs.Carried.{IsKept, Led, carried}
 use Rattle.st_laws_volume.proofs.ChangeLines.{on_both}
@@ -37,35 +38,35 @@ use Rattle.st_volume.specs.Pages.{same_file}
 use Rattle.st_volume.specs.Volume.{Pending, Volume, file_of, is_of_client}
 
 -- The two marks.
-abbrev its_missed : Bool → Bool → Bool
+abbrev pub its_missed : Bool → Bool → Bool
 its_missed p q = p
 
-abbrev its_other : Bool → Bool → Bool
+abbrev pub its_other : Bool → Bool → Bool
 its_other p q = q
 
-missed_lasts : Lasts its_missed
+pub missed_lasts : Lasts its_missed
 missed_lasts true q x y k = refl
 missed_lasts false q x y k = cc k
 
-other_lasts : Lasts its_other
+pub other_lasts : Lasts its_other
 other_lasts p true x y k = refl
 other_lasts p false x y k = cc k
 
 -- which asks have them
-abbrev of_file : ServerId → ℕ → Ask → Bool
+abbrev pub of_file : ServerId → ℕ → Ask → Bool
 of_file s ino ask = same_file (file_of ask) (record { server = s; ino = ino })
 
-abbrev AllMissed : Step → ServerId → ℕ → ClientId → Volume → Type 0
+abbrev pub AllMissed : Step → ServerId → ℕ → ClientId → Volume → Type 0
 AllMissed y s ino c v = AllMarked c (asks_before y c) (of_file s ino) its_missed missed_lasts v
 
-abbrev AllOther : Step → ServerId → ℕ → List ℕ → ℕ → ClientId → Volume → Type 0
+abbrev pub AllOther : Step → ServerId → ℕ → List ℕ → ℕ → ClientId → Volume → Type 0
 AllOther y s dir name ino c v = AllMarked c (asks_before y c) (removes_other s dir name ino) its_other other_lasts v
 
 -- What the open asks that had come before a step have noticed.
-record AllOld (y : Step) (o : Option Volume) : Type 0 where
-  missed : (s : ServerId) (node : ServerNode) (ino : ℕ) → node_of y.before.world s ≡ Some node → is_file node.state.stable.names ino ≡ false →
+pub record AllOld (y : Step) (o : Option Volume) : Type 0 where
+  pub missed : (s : ServerId) (node : ServerNode) (ino : ℕ) → node_of y.before.world s ≡ Some node → is_file node.state.stable.names ino ≡ false →
       nat_lt 0 ino ≡ true → (c : ClientId) → OnSome (AllMissed y s ino c) o
-  other : (s : ServerId) (node : ServerNode) (dir : ℕ) (name : List ℕ) (ino : ℕ) → node_of y.before.world s ≡ Some node →
+  pub other : (s : ServerId) (node : ServerNode) (dir : ℕ) (name : List ℕ) (ino : ℕ) → node_of y.before.world s ≡ Some node →
       lookup node.state.stable.names dir name ≡ Ok ino → is_file node.state.stable.names ino ≡ true → (c : ClientId) →
       OnSome (AllOther y s dir name ino c) o
 
@@ -90,7 +91,7 @@ all_marked c n which pick lasts v h l = (all_pass (marked c n which pick lasts) 
         or_right (not (which a.ask)) _ (or_right (not (is_of_client c a && nat_le a.op n)) (pick a.missed a.other) (h a i q))
     one a i false q = or_left (not (which a.ask)) _ (ap not q)
 
-old_now : (x : Step) → AllSound x.before.world → (bs : List Behind) (o : Option Volume) → OnSome (HasTreesOf x.before.world) o → OnSome Noticed o →
+pub old_now : (x : Step) → AllSound x.before.world → (bs : List Behind) (o : Option Volume) → OnSome (HasTreesOf x.before.world) o → OnSome Noticed o →
     OnSome (HasAsksOf x.before.world) o → AllOld x o
 old_now x sound bs o trees noticed asks = record { missed = missed; other = other }
   where
@@ -121,16 +122,16 @@ old_now x sound bs o trees noticed asks = record { missed = missed; other = othe
         (λ a i r. has_other x.before.world sound bs v k.0 k.1.0 s node at dir name ino q f a i r) (counted v k.1.1 c)) o both
 
 -- What is carried.
-record MarksHold (past : List Step) (t : Traced) (it : Witness) : Type 0 where
-  asks : AsksHold past t it
-  trees_ : TreesHold past t it
-  notices : NoticesHold past t it
-  olds : (y : Step) → Has y past → AllOld y it.volume
+pub record MarksHold (past : List Step) (t : Traced) (it : Witness) : Type 0 where
+  pub asks : AsksHold past t it
+  pub trees_ : TreesHold past t it
+  pub notices : NoticesHold past t it
+  pub olds : (y : Step) → Has y past → AllOld y it.volume
 
-abbrev Known : Promise
+abbrev pub Known : Promise
 Known past x = FatesHold x.after.world × PlacesHold x.after.world
 
-marks_kept : IsKept Known MarksHold
+pub marks_kept : IsKept Known MarksHold
 unfolding led_by
 marks_kept past t e sc it f g h =
     record {
@@ -153,7 +154,7 @@ marks_kept past t e sc it f g h =
 second : (p q : Bool) → p ≡ true → (not p || q) ≡ true → q ≡ true
 second p q e h = sym (ap (λ b. not b || q) e) ∙ h
 
-own_mark : (n : ℕ) (which : Ask → Bool) (pick : Bool → Bool → Bool) (lasts : Lasts pick) (v : Volume) (a : Pending) → Has a v.pending →
+pub own_mark : (n : ℕ) (which : Ask → Bool) (pick : Bool → Bool → Bool) (lasts : Lasts pick) (v : Volume) (a : Pending) → Has a v.pending →
     AllMarked a.client n which pick lasts v → a.op ≤ n → which a.ask ≡ true → pick a.missed a.other ≡ true
 own_mark n which pick lasts v a i h l q =
     second (is_of_client a.client a && nat_le a.op n) (pick a.missed a.other)
@@ -175,17 +176,22 @@ all_noticed past None h = tt
 all_noticed past (Some v) h = λ y i. noticed_at v y (h y i)
 
 -- In every run.
-pub notices_stay : InEveryRun NoticesStay
-unfolding Rattle.st_laws_volume.specs.Witness.begun
-notices_stay k clients servers disks blocks form es head events =
-    let t : Traced = traced (fresh_world k clients servers disks blocks form) in
-    throughout_more (Led MarksHold) NoticesStay (λ past x h. all_noticed (past ++ x ∷ []) _ h.olds) [] (steps es t)
-    (carried Known MarksHold marks_kept es t
-    (record {
+pub marks_begin : (k : Config) (clients servers disks blocks form : ℕ) →
+    MarksHold [] (traced (fresh_world k clients servers disks blocks form))
+    (begun (fresh_world k clients servers disks blocks form) (fresh_world k clients servers disks blocks form))
+unfolding begun
+marks_begin k clients servers disks blocks form =
+    record {
       asks = asks_begin k clients servers disks blocks form;
       trees_ = trees_begin k clients servers disks blocks form;
       notices = notices_begin k clients servers disks blocks form;
       olds = λ y i. absurd i;
-    })
+    }
+
+pub notices_stay : InEveryRun NoticesStay
+notices_stay k clients servers disks blocks form es head events =
+    let t : Traced = traced (fresh_world k clients servers disks blocks form) in
+    throughout_more (Led MarksHold) NoticesStay (λ past x h. all_noticed (past ++ x ∷ []) _ h.olds) [] (steps es t)
+    (carried Known MarksHold marks_kept es t (marks_begin k clients servers disks blocks form)
     (throughout_both (λ past x. FatesHold x.after.world) (λ past x. PlacesHold x.after.world) [] (steps es t)
     (fates_law k clients servers disks blocks form es) (places_law k clients servers disks blocks form es head)))

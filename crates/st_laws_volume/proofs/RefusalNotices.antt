@@ -1,10 +1,9 @@
 -- In every run the open asks that a server's refusal may answer have noticed its cause before: the volume's trees are the servers' names, and open asks have
 -- noticed all that there is to notice in them.
-use Rattle.std.proofs.Common.{◌≡◌, ℕ, Bool, true, false, not, ◌&&◌, ◌||◌, ◌==◌, List, [], Option, Some, None, Ok, Err, refl, sym, ap, ◌∙◌, subst, if◌then◌else◌}
-use Rattle.std.specs.Prelude.{bytes_eq, nat_lt, option_map, Result}
+use Rattle.std.proofs.Common.{◌≡◌, ℕ, Bool, true, false, not, ◌&&◌, ◌||◌, ◌==◌, List, [], Option, Some, None, Ok, refl, sym, ap, ◌∙◌, subst, if◌then◌else◌}
+use Rattle.std.specs.Prelude.{bytes_eq, nat_lt, option_map}
 use Rattle.std.proofs.lemmas.Bool.{eqb-true}
 use Rattle.std.proofs.lemmas.Slice.Eq.{bytes_eq-Decides}
-use Rattle.st_base.specs.declared.ids.GrantNo.{GrantNo}
 use Rattle.st_base.specs.declared.ids.NodeId.{NodeId}
 use Rattle.st_base.specs.declared.ids.NodeId.TheVariants as nodes
 use Rattle.st_base.specs.declared.ids.ServerId.{ServerId}
@@ -17,15 +16,13 @@ use Rattle.st_messages.specs.declared.event.Event.TheVariants as events
 use Rattle.st_messages.specs.declared.message.Body.{Body}
 use Rattle.st_messages.specs.declared.message.Body.TheVariants as bodies
 use Rattle.st_messages.specs.declared.message.Message.{Message}
-use Rattle.st_messages.specs.declared.message.NameOp.TheVariants as ops
 use Rattle.st_messages.specs.declared.message.Why.TheVariants as why
 use Rattle.st_rules.specs.declared.world.SentMessage.{SentMessage}
 use Rattle.st_rules.specs.History.{Traced, traced}
 use Rattle.st_rules.specs.Names as names
 use Rattle.st_rules.specs.Names.{Names}
 use Rattle.st_rules.specs.Safety.{Step}
-use Rattle.st_rules.specs.Server as sv
-use Rattle.st_rules.specs.Server.{Replied, ServerNode, ServerTurn, Stable}
+use Rattle.st_rules.specs.Server.{ServerNode, ServerTurn, Stable}
 use Rattle.st_rules.specs.World.{World, fresh_world, message_of, node_of, receiver_of}
 use Rattle.st_lemmas.specs.Lists.{Has}
 use Rattle.st_lemmas.proofs.Lookups.{or_right}

@@ -1,13 +1,10 @@
 -- In every run each open ask that had come before a server refused a request has noticed why: what the reply tells was there to notice as the step began.
-use Rattle.std.proofs.Common.{◌≡◌, [], ◌∷◌, ◌++◌, Some, sym, ap, ◌∙◌, subst}
+use Rattle.std.proofs.Common.{◌≡◌, [], ◌∷◌, ◌++◌, sym, ap, ◌∙◌}
 use Rattle.st_base.specs.declared.ids.ServerId.{ServerId}
-use Rattle.st_messages.specs.declared.message.Body.TheVariants as bodies
-use Rattle.st_messages.specs.declared.message.Why.TheVariants as why
 use Rattle.st_rules.specs.History.{traced}
 use Rattle.st_rules.specs.Names as names
 use Rattle.st_rules.specs.Safety.{Step, steps}
-use Rattle.st_rules.specs.Server as sv
-use Rattle.st_rules.specs.Server.{ServerNode, ServerTurn, Stable}
+use Rattle.st_rules.specs.Server.{ServerNode, Stable}
 use Rattle.st_rules.specs.World.{World, fresh_world}
 use Rattle.st_lemmas.specs.Lists.{Has}
 use Rattle.st_laws_names.specs.Keys.{behind_thefts, now_at}

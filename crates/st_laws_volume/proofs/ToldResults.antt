@@ -1,15 +1,14 @@
 -- In every run the volume takes each answer that tells a result: a server served the request of the ask, and so the ask took effect then, and kept its result.
 use Rattle.st_lemmas.proofs.Words
 use Words.{◌≡◌, ◌⊎◌, ℕ, ◌+◌, ◌≤◌, Bool, true, false, not, ◌||◌, ◌==◌, List, [], ◌∷◌, ◌++◌, length, Option, Some, None, Ok, refl, sym, ap, ◌∙◌, subst, inl, inr, append_assoc, if◌then◌else◌}
-use Words.{eq-eqb, eqb-true, filter, find, is_some, list_all, option_and_then, AppAnswer, Ask, Body, ClientId, Event, Header, Message, NameOp, NameRow, NodeId, Observation, Result, SentMessage}
-use Words.{EntryRefusal, GrantNo, PageNo, ServerId, ServerInput, Stamp, Err}
+use Words.{eq-eqb, eqb-true, filter, find, is_some, list_all, option_and_then, AppAnswer, Ask, Body, ClientId, Event, Header, Message, NameOp, NodeId, Observation, SentMessage}
+use Words.{GrantNo, PageNo, ServerId, ServerInput, Stamp, Err}
 use Words.answers
 use Words.asks
 use Words.bodies
 use Words.events
 use Words.modes
 use Words.nodes
-use Words.ops
 use Words.seen
 use Words.serving
 use Words.ClientState.{asks_cut_or_name, reasserts}
@@ -18,18 +17,16 @@ use Words.Events.{WorldTurn, world_step}
 use Words.History.{Traced, traced, traced_after}
 use Words.Keys.{client}
 use Words.Lists.{Has}
-use Words.Lookups.{if_true, some_is}
-use Words.Members.{has_left, has_right}
-use Words.Names as names
+use Words.Lookups.{if_true}
+use Words.Members.{has_left}
 use Words.Numbers.{numbered_has}
 use Words.Safety.{Promise, Step, is_event, step, steps}
 use Words.Server as sv
-use Words.Server.{Replied, ServerNode, ServerTurn}
-use Words.Tables.{and_both, and_true, each_passes, found_at, has_append, has_map_in}
+use Words.Server.{ServerNode, ServerTurn}
+use Words.Tables.{each_passes, found_at, has_append, has_map_in}
 use Words.Truth.{client_is, eqb_self}
 use Words.World as world
-use Words.World.{World, fresh_world, message_of, node_of, receiver_of, site_of}
-use Rattle.st_rules.specs.declared.names.EntryRefusal.TheVariants as refusals
+use Words.World.{World, fresh_world, message_of, node_of, receiver_of}
 use Rattle.st_rules.specs.declared.node.StepRefusal.TheVariants.{Crashed}
 use Rattle.st_lemmas.proofs.Steps.{step_happens}
 use Rattle.st_protocol.specs.Assoc as net
@@ -41,14 +38,14 @@ use Rattle.st_laws_refine.specs.Server.Pair.{terms_of}
 use Rattle.st_laws_leases.specs.Dates.Dates.{message_in, messages}
 use Rattle.st_laws_requests.specs.Cuts.Cuts.{AsksFor, Keyed, asks_of}
 use Rattle.st_laws_requests.proofs.Cuts.Keeping.{Answers}
-use Rattle.st_laws_requests.proofs.Cuts.Seen.{NoAnswer, NoAnswers, none_answered as no_answers, server_none}
+use Rattle.st_laws_requests.proofs.Cuts.Seen.{NoAnswers, none_answered as no_answers, server_none}
 use Rattle.st_laws_names.specs.Keys.{HasEvent, ServedAt, is_final}
 use Rattle.st_laws_names.specs.OutstandingKeys.{KeysHaveOneOperation, SameKey, WaitsUnder}
 use Rattle.st_laws_names.proofs.Facts.{FactsHold, facts_begin, facts_on, operations_law}
 use Rattle.st_laws_names.proofs.Keys.{IsRequested, IsTold, is_told, keyed_same, one_body, told_on}
 use Rattle.st_laws_names.proofs.Rows.{worlds_on}
-use Rattle.st_laws_names.proofs.World.{Asked, Worlds, none_waits}
-use Rattle.st_laws_volume.specs.Asks.{HasAsksOf, at_site, in_volume}
+use Rattle.st_laws_names.proofs.World.{Asked, Worlds}
+use Rattle.st_laws_volume.specs.Asks.{HasAsksOf, in_volume}
 use Rattle.st_laws_volume.specs.Logs.{InEveryRun}
 use Rattle.st_laws_volume.specs.Options.{OnSome}
 use Rattle.st_laws_volume.specs.ResultAnswers.{gives_result, tells_result}
@@ -61,12 +58,12 @@ use Rattle.st_laws_volume.proofs.AskedAsks.{AreOf, RightHold, right_begins, righ
 use Rattle.st_laws_volume.proofs.AskEvents.{AllOpenFor}
 use Rattle.st_laws_volume.proofs.Asks.{AsksHold, asks_begin, asks_kept}
 use Rattle.st_laws_volume.proofs.AskSteps.{told_all}
-use Rattle.st_laws_volume.proofs.AsksTaken.{all_other, is_other}
+use Rattle.st_laws_volume.proofs.AsksTaken.{all_other}
 use Rattle.st_laws_volume.proofs.Carried.{IsGiven, given_in}
 use Rattle.st_laws_volume.proofs.ChangeLines.{block_other, on_both, taken_both}
 use Rattle.st_laws_volume.proofs.LogLines.{run_then}
 use Rattle.st_laws_volume.proofs.NameReplies.{IsNamed, NameReplied, RemovesNot, name_replied}
-use Rattle.st_laws_volume.proofs.OpenAnswers.{Open, block, block_open, first_open, open_left, served_open}
+use Rattle.st_laws_volume.proofs.OpenAnswers.{Open, block, block_open, first_open, open_left}
 use Rattle.st_laws_volume.proofs.Options.{on_all, on_if, on_more, on_then, on_true}
 use Rattle.st_laws_volume.proofs.ReadPages.{InRange, all_in_range, throughout_both}
 use Rattle.st_laws_volume.proofs.RequestAsks.{GhostHolds, Grants, HasKey, cut_or_name, ghost_begins, ghost_kept, has_key}
@@ -75,7 +72,7 @@ use Rattle.st_laws_volume.proofs.ResultsStay.{AllKeep, event_keep, keeps, run_ke
 use Rattle.st_laws_volume.proofs.ServedRequests.{done_there, receiver}
 use Rattle.st_laws_volume.proofs.StepKinds.{both_inside, delivery_inside, lines_inside}
 use Rattle.st_laws_volume.proofs.ToldSteps.{Told, event_kept, kept_told, one_then, two_then}
-use Rattle.st_laws_volume.proofs.Trees.{TreesHold, no_delivery, trees_begin, trees_kept}
+use Rattle.st_laws_volume.proofs.Trees.{TreesHold, trees_begin, trees_kept}
 use Rattle.st_volume.specs.declared.step.VolumeStep.{VolumeStep}
 use Rattle.st_volume.specs.declared.step.VolumeStep.TheVariants as kinds
 use Rattle.st_volume.specs.Pages.{is_any}

@@ -17,6 +17,7 @@ ghost use Rattle.st_laws_volume.specs.StepKinds.{AnswersAreToOpenAsks, EntriesAr
 ghost use Rattle.st_laws_volume.specs.Laws.{RunsInParts, StepsShowTheEvent, TheStartAgrees};
 ghost use Rattle.st_laws_volume.specs.Logs.{InEveryRun, LogsAgree};
 ghost use Rattle.st_laws_volume.specs.LossMarks.{LatePagesHaveFailed, LossesAreMet, PagesAreOnce};
+ghost use Rattle.st_laws_volume.specs.NoFileAnswers.{FilesAreMissing};
 ghost use Rattle.st_laws_volume.specs.Notices.{AsksHaveNoticed};
 ghost use Rattle.st_laws_volume.specs.OwedRows.{OwedRowsNameEntries};
 ghost use Rattle.st_laws_volume.specs.Reads.{PagesAgree, ReadsGiveThePages};
@@ -356,6 +357,14 @@ pub fn notices_stay()
 /// this file.
 pub fn replies_stay_noticed()
     ensures { InEveryRun RepliesStayNoticed }
+{}
+
+/// In every run each answer `nofile` goes to an ask that has no result, if the volume has taken all
+/// steps before it. If the asked server is there, the ask isn't a sync, and has noticed that its
+/// file didn't exist; or it came after a server refused a request of its client for the file, and
+/// the inode was given only after that.
+pub fn files_are_missing()
+    ensures { InEveryRun FilesAreMissing }
 {}
 
 /// In every run a file that a server lacked as a step began, although it had given its inode,
