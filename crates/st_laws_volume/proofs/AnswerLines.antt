@@ -246,7 +246,8 @@ at_parts fact (x ∷ xs) ys u h = let z = go (volume.step u x) h.1 (λ y a. at_p
 
 -- A fact of each line's answer, by another one.
 module _ (goal : VolumeStep → Volume → Type 0) (of : OfAnswers goal) (fact : VolumeStep → Volume → Type 0) (w : World) (In : Observation → Type 0)
-    (one : (c : ClientId) (op : ℕ) (a : AppAnswer) → In (seen.Answered c op a) → (u : Volume) → fact (kinds.Answered c op a) u → goal (kinds.Answered c op a) u) where
+    (one : (c : ClientId) (op : ℕ) (a : AppAnswer) → In (seen.Answered c op a) → (u : Volume) → fact (kinds.Answered c op a) u →
+    goal (kinds.Answered c op a) u) where
   its_fact : (c : ClientId) (op : ℕ) (a : AppAnswer) (os : List Observation) (u : Volume) → AtEachStep fact (block w (seen.Answered c op a) os) u →
       fact (kinds.Answered c op a) u
   unfolding before_line of_line AtEachStep

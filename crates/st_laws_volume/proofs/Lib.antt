@@ -1,10 +1,12 @@
 pub mod AnswerCauses
+pub mod AnswerFacts
 pub mod AnswerLines
 pub mod AnswerResults
 pub mod AnswerSteps
 pub mod AskClient
 pub mod AskEvents
 pub mod AskSteps
+pub mod AskWords
 pub mod AskedAsks
 pub mod Asks
 pub mod AsksFollowed
@@ -80,6 +82,7 @@ pub mod MappedFiles
 pub mod MarksStay
 pub mod NameReplies
 pub mod NoFileAnswers
+pub mod NoSpaceAnswers
 pub mod Notices
 pub mod NoticesStay
 pub mod OpenAnswers
@@ -92,6 +95,7 @@ pub mod OwedHolds
 pub mod OwedLines
 pub mod OwedRows
 pub mod OwedSteps
+pub mod PageRequests
 pub mod Parts
 pub mod PendingAlone
 pub mod PlaceCounts

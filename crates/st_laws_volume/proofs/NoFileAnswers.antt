@@ -22,7 +22,7 @@ use Words.Numbers.{get_map, numbered_below}
 use Words.Kinds.{between}
 use Words.Ranges as ranges
 use Rattle.st_lemmas.proofs.Tests.{all_last}
-use Words.Safety.{Promise, Step, TheReportTellsTheLog, all_answered_once, all_followed, step, steps}
+use Words.Safety.{Step, all_answered_once, all_followed, step}
 use Words.Server.{ServerNode}
 use Words.Tables.{and_both, and_true, found_at, has_append, has_map, not_true}
 use Words.Truth.{below_or_not, client_is, clash}
@@ -31,19 +31,15 @@ use Words.World.{World, WorldClient, fresh_world, node_of, numbered, site_of}
 use Rattle.st_base.specs.declared.config.Config.{Config}
 use Rattle.st_rules.specs.declared.client.ClientInput.{ClientInput}
 use Rattle.st_protocol.specs.Assoc as net
-use Rattle.st_promises.specs.Safe.{EveryRunIsSafe, IsSafeRun}
-use Rattle.st_laws_pages.specs.Asks.Law.{PlacesHold}
+use Rattle.st_promises.specs.Safe.{EveryRunIsSafe}
 use Rattle.st_laws_pages.proofs.Asks.Client.{key}
-use Rattle.st_laws_pages.proofs.Asks.Law.{places_law}
 use Rattle.st_laws_pages.proofs.Asks.World.{asks_of}
 use Rattle.st_laws_refine.specs.Server.Pair.{terms_of}
-use Rattle.st_laws_requests.specs.Replies.ServedRequests.{ReassertionsNew}
-use Rattle.st_laws_extents.proofs.CutRequests.New.{reassertions_new}
 use Rattle.st_laws_cuts.proofs.Open.{association_there}
 use Rattle.st_laws_names.proofs.Facts.{FactsHold}
 use Rattle.st_laws_volume.specs.AnswerKinds.{IsOfUndone}
-use Rattle.st_laws_volume.specs.Asks.{HasAsksOf, at_site}
-use Rattle.st_laws_volume.specs.Logs.{InEveryRun, IsLogOf}
+use Rattle.st_laws_volume.specs.Asks.{at_site}
+use Rattle.st_laws_volume.specs.Logs.{InEveryRun}
 use Rattle.st_laws_volume.specs.NoFileAnswers.{CameLater, FilesAreMissing, IsMissing, IsNoFile}
 use Rattle.st_laws_volume.specs.Options.{OnSome}
 use Rattle.st_laws_volume.specs.Refusals.{asks_before, removes_other}
@@ -52,28 +48,25 @@ use Rattle.st_laws_volume.specs.StepKinds.{AtEachStep}
 use Rattle.st_laws_volume.specs.Trees.{HasTreesOf, tree_at}
 use Rattle.st_laws_volume.specs.Witness.{Witness, led_by, steps_of}
 use Rattle.st_laws_volume.proofs.AnswerCauses.{IsOfFile, IsRefusal, IsUnknown, Says}
+use Rattle.st_laws_volume.proofs.AnswerFacts.{AllOf, FactsOf, Known, all_of, facts_begin, facts_on, known_in}
 use Rattle.st_laws_volume.proofs.AnswerLines.{LastsInside, step_of}
 use Rattle.st_laws_volume.proofs.AskClient.{coming}
-use Rattle.st_laws_volume.proofs.AskedAsks.{AreOf, RightHold, right_begins, right_kept}
+use Rattle.st_laws_volume.proofs.AskWords.{file_words, server_words, sync_words}
 use Rattle.st_laws_volume.proofs.Carried.{IsGiven, given_in}
 use Rattle.st_laws_volume.proofs.EventAnswers.{Given, Stepping, event_answers}
 use Rattle.st_laws_volume.proofs.GoneFiles.{GoneHold, gone_kept, names_at, no_file}
 use Rattle.st_laws_volume.proofs.LogLines.{numbered_suc}
-use Rattle.st_laws_volume.proofs.Logs.{LogHolds, log_begins, log_kept}
 use Rattle.st_laws_volume.proofs.MarksStay.{run_marked, step_marked}
 use Rattle.st_laws_volume.proofs.NoticesStay.{AllOld, MarksHold, its_missed, its_other, marks_begin, marks_kept, missed_lasts, of_file, old_now, other_lasts, own_mark}
 use Rattle.st_laws_volume.proofs.OpenAnswers.{OfAnswers, open_left}
-use Rattle.st_laws_volume.proofs.OpenResults.{AllFine}
 use Rattle.st_laws_volume.proofs.Options.{on_more}
-use Rattle.st_laws_volume.proofs.ReadPages.{throughout_both}
 use Rattle.st_laws_volume.proofs.ReadRanges.{asks_in_range, is_in_range, numbered_in_range}
 use Rattle.st_laws_volume.proofs.RefusedRequests.{LacksFile, lacks_file, refused_by}
-use Rattle.st_laws_volume.proofs.SessionEpochs.{EpochsRight, KnowsEpochs, knows_begin, knows_on}
+use Rattle.st_laws_volume.proofs.SessionEpochs.{EpochsRight}
 use Rattle.st_laws_volume.proofs.StepAnswers as stepping
 use Rattle.st_laws_volume.proofs.StepAnswers.{before, event_answered, start, start_is}
 use Rattle.st_laws_volume.proofs.Trees.{trees_begin}
 use Rattle.st_laws_volume.proofs.UnservedAsks as none
-use Rattle.st_laws_volume.proofs.UnservedAsks.{NoneHold, WasServed, none_begins, none_on}
 use Rattle.st_volume.specs.declared.step.VolumeStep.{VolumeStep}
 use Rattle.st_volume.specs.declared.step.VolumeStep.TheVariants as kinds
 use Rattle.st_volume.specs.Pages.{same_file}
@@ -100,57 +93,6 @@ all_olds past (Some u) h = h
 
 olds_last : (past : List Step) → LastsInside (AllOlds past)
 olds_last past it u q h = all_olds past (volume.step u it) (λ y i. old_step y it u (h y i))
-
--- The words of a client for the file of an ask, and for a sync, are those of the volume.
-file_words : (s : ServerId) (ino : ℕ) (ask : Ask) → (same_server (cs.server_of ask) s && cs.is_file ino (cs.file_of ask)) ≡ true →
-    volume.file_of ask ≡ record { server = s; ino = ino }
-unfolding cs.meant
-file_words s ino ask e = by ask (and_true (same_server (cs.server_of ask) s) (cs.is_file ino (cs.file_of ask)) e)
-  where
-    its : (f : FileId) → (f.server.0 == s.0) ≡ true → (f.ino == ino) ≡ true → f ≡ record { server = s; ino = ino }
-    its f p q =
-        ap (λ n. record { server = record { 0 = n }; ino = f.ino }) (eqb-true f.server.0 s.0 p)
-        ∙ ap (λ n. record { server = s; ino = n }) (eqb-true f.ino ino q)
-
-    meant_is : (r : ServerId) (i : ℕ) (b : Bool) → (r.0 == s.0) ≡ true → cs.is_file ino (if b then None else Some i) ≡ true →
-        ◌≡◌ {A = FileId} (record { server = r; ino = i }) (record { server = s; ino = ino })
-    meant_is r i true p q = cc q
-    meant_is r i false p q = its (record { server = r; ino = i }) p q
-
-    by : (ask : Ask) → (same_server (cs.server_of ask) s ≡ true) × (cs.is_file ino (cs.file_of ask) ≡ true) →
-        volume.file_of ask ≡ record { server = s; ino = ino }
-    by (asks.Write f p bytes) z = its f z.0 z.1
-    by (asks.Patch f p at bytes) z = its f z.0 z.1
-    by (asks.Read f p) z = its f z.0 z.1
-    by (asks.Sync f) z = its f z.0 z.1
-    by (asks.Cut f p) z = its f z.0 z.1
-    by (asks.Name r (names.Remove dir name i)) z = meant_is r i (i == 0) z.0 z.1
-    by (asks.Name r (names.Lookup dir name)) z = cc z.1
-    by (asks.Name r (names.Create dir name)) z = cc z.1
-    by (asks.Name r (names.Mkdir dir name)) z = cc z.1
-    by (asks.Name r (names.Rename dir name dir2 name2)) z = cc z.1
-    by (asks.Name r (names.List dir after)) z = cc z.1
-
-sync_words : (ask : Ask) → volume.is_sync ask ≡ cs.is_sync ask
-sync_words (asks.Write f p bytes) = refl
-sync_words (asks.Patch f p at bytes) = refl
-sync_words (asks.Read f p) = refl
-sync_words (asks.Sync f) = refl
-sync_words (asks.Cut f p) = refl
-sync_words (asks.Name r ask) = refl
-
-server_words : (ask : Ask) → volume.server_of ask ≡ cs.server_of ask
-server_words (asks.Write f p bytes) = refl
-server_words (asks.Patch f p at bytes) = refl
-server_words (asks.Read f p) = refl
-server_words (asks.Sync f) = refl
-server_words (asks.Cut f p) = refl
-server_words (asks.Name s (names.Remove dir name ino)) = refl
-server_words (asks.Name s (names.Lookup dir name)) = refl
-server_words (asks.Name s (names.Create dir name)) = refl
-server_words (asks.Name s (names.Mkdir dir name)) = refl
-server_words (asks.Name s (names.Rename dir name dir2 name2)) = refl
-server_words (asks.Name s (names.List dir after)) = refl
 
 -- A file that is asked for has an inode.
 has_inode : (s : ServerId) (ino : ℕ) (ask : Ask) → (same_server (cs.server_of ask) s && cs.is_file ino (cs.file_of ask)) ≡ true →
@@ -393,29 +335,21 @@ MissingToo : List Step → Step → Witness → Type 0
 MissingToo past x it = OnSome (λ v. AtEachStep (IsNoFile past x.before.world) (steps_of it v x) v) it.volume
 
 record MissingHold (k : net.Config) (count : ℕ) (past : List Step) (t : Traced) (it : Witness) : Type 0 where
-  unserved : NoneHold k count past t it
-  log : LogHolds past t it
-  knows : KnowsEpochs past t
-  right : RightHold past t it
+  facts : FactsOf k count past t it
   marks : MarksHold past t it
   gone : GoneHold past t it
   ranges_ : list_all (is_in_range count) past ≡ true
 
-abbrev Known : ℕ → Promise
-Known count past x = none.Known count past x × (TheReportTellsTheLog past x × (ReassertionsNew past x × PlacesHold x.after.world))
-
-record AllOf (past past2 : List Step) (t : Traced) (v : Volume) : Type 0 where
-  log : IsLogOf t.world.log v
-  asked : AreOf (asks_of past) v
-  agree : HasAsksOf t.world v
+-- of the volume, if there is one
+record AllToo (past past2 : List Step) (t : Traced) (v : Volume) : Type 0 where
+  all : AllOf past t v
   trees : HasTreesOf t.world v
-  fine : AllFine (WasServed past t.world) None v
   olds : AllOlds past2 v
 
-all_of : (k : net.Config) (count : ℕ) (past : List Step) (t : Traced) (e : Event) (sc : WorldTurn) (it : Witness) → MissingHold k count past t it →
-    OnSome (AllOf past (past ++ step t e sc ∷ []) t) it.volume
-all_of k count past t e sc it h =
-    go it.volume h.log h.right h.marks.asks.agree h.marks.trees_.agree h.unserved.fine (all_olds (past ++ step t e sc ∷ []) it.volume olds)
+all_too : (k : net.Config) (count : ℕ) (past : List Step) (t : Traced) (e : Event) (sc : WorldTurn) (it : Witness) → MissingHold k count past t it →
+    OnSome (AllToo past (past ++ step t e sc ∷ []) t) it.volume
+all_too k count past t e sc it h =
+    go it.volume (all_of k count past t it h.facts) h.marks.trees_.agree (all_olds (past ++ step t e sc ∷ []) it.volume olds)
   where
     now : AllOld (step t e sc) it.volume
     now = old_now (step t e sc) h.marks.trees_.sound it.behind it.volume h.marks.trees_.agree h.marks.notices h.marks.asks.agree
@@ -428,35 +362,32 @@ all_of k count past t e sc it h =
         by (inr (inl q)) = subst (λ z. AllOld z it.volume) (sym q) now
         by (inr (inr j)) = absurd j
 
-    go : (o : Option Volume) → OnSome (IsLogOf t.world.log) o → OnSome (AreOf (asks_of past)) o → OnSome (HasAsksOf t.world) o →
-        OnSome (HasTreesOf t.world) o → OnSome (AllFine (WasServed past t.world) None) o → OnSome (AllOlds (past ++ step t e sc ∷ [])) o →
-        OnSome (AllOf past (past ++ step t e sc ∷ []) t) o
-    go None p q r m u y = tt
-    go (Some v) p q r m u y = record { log = p; asked = q; agree = r; trees = m; fine = u; olds = y }
+    go : (o : Option Volume) → OnSome (AllOf past t) o → OnSome (HasTreesOf t.world) o → OnSome (AllOlds (past ++ step t e sc ∷ [])) o →
+        OnSome (AllToo past (past ++ step t e sc ∷ []) t) o
+    go None p q y = tt
+    go (Some v) p q y = record { all = p; trees = q; olds = y }
 
 missing_on : (k : net.Config) (count : ℕ) → IsGiven (Known count) (MissingHold k count) MissingToo
 unfolding MissingToo
 missing_on k count past t e sc it f g h = (
-  on_more (AllOf past (past ++ step t e sc ∷ []) t) (λ v. AtEachStep (IsNoFile past t.world) (steps_of it v (step t e sc)) v)
-      (λ v m. event_answered k count past t e sc f h.unserved.facts after.facts h.knows.right it v (AllOlds (past ++ step t e sc ∷ []))
+  on_more (AllToo past (past ++ step t e sc ∷ []) t) (λ v. AtEachStep (IsNoFile past t.world) (steps_of it v (step t e sc)) v)
+      (λ v m. event_answered k count past t e sc f h.facts.unserved.facts after.unserved.facts h.facts.knows.right it v (AllOlds (past ++ step t e sc ∷ []))
       (olds_last (past ++ step t e sc ∷ [])) (IsNoFile past t.world)
-      (silent k count past t e sc f h.unserved.facts after.facts h.knows.right it h.gone ranged v m.trees)
-      (one k count past t e sc f h.unserved.facts after.facts h.knows.right it h.gone ranged v m.trees) m.log.lines m.agree m.asked
-      (open_left past t e sc it f h.marks.asks) (and_true (all_answered_once past (step t e sc) [] sc.seen) (all_followed sc.seen) g.0.1.0).1 m.fine
-      (olds_run (past ++ step t e sc ∷ []) (of_event t.world e) v m.olds) (event_answers t.world e sc f)) it.volume (all_of k count past t e sc it h),
+      (silent k count past t e sc f h.facts.unserved.facts after.unserved.facts h.facts.knows.right it h.gone ranged v m.trees)
+      (one k count past t e sc f h.facts.unserved.facts after.unserved.facts h.facts.knows.right it h.gone ranged v m.trees) m.all.log.lines m.all.agree
+      m.all.asked (open_left past t e sc it f h.facts.asks)
+      (and_true (all_answered_once past (step t e sc) [] sc.seen) (all_followed sc.seen) g.0.1.0).1 m.all.fine
+      (olds_run (past ++ step t e sc ∷ []) (of_event t.world e) v m.olds) (event_answers t.world e sc f)) it.volume (all_too k count past t e sc it h),
   record {
-    unserved = after;
-    log = log_kept past t e sc it f g.1.0 h.log;
-    knows = knows_on past t e sc f g.1.1.0 h.knows;
-    right = right_kept past t e sc it f tt h.right;
+    facts = after;
     marks = marks_kept past t e sc it f (g.0.1.1.0, g.1.1.1) h.marks;
     gone = gone_kept past t e sc it f tt h.gone;
     ranges_ = ranged;
   },
 )
   where
-    after : NoneHold k count (past ++ step t e sc ∷ []) (traced_after e t sc) (led_by it (step t e sc))
-    after = (none_on k count past t e sc it f g.0 h.unserved).1
+    after : FactsOf k count (past ++ step t e sc ∷ []) (traced_after e t sc) (led_by it (step t e sc))
+    after = facts_on k count past t e sc it f g h.facts
 
     ranged : list_all (is_in_range count) (past ++ step t e sc ∷ []) ≡ true
     ranged = all_last (is_in_range count) past (step t e sc) h.ranges_ g.0.0
@@ -464,21 +395,13 @@ missing_on k count past t e sc it f g h = (
 pub files_are_missing : EveryRunIsSafe → InEveryRun FilesAreMissing
 unfolding MissingToo
 files_are_missing safe k clients servers disks blocks form es head events =
-    let t : Traced = traced (fresh_world k clients servers disks blocks form) in
     let count : ℕ = clients + servers in
-    let kept : IsSafeRun (fresh_world k clients servers disks blocks form) es = safe k clients servers disks blocks form es head events in
-    given_in (Known count) (MissingHold (terms_of k) count) MissingToo (missing_on (terms_of k) count) es t
+    given_in (Known count) (MissingHold (terms_of k) count) MissingToo (missing_on (terms_of k) count) es
+    (traced (fresh_world k clients servers disks blocks form))
     (record {
-      unserved = none_begins k clients servers disks blocks form head;
-      log = log_begins k clients servers disks blocks form;
-      knows = knows_begin k clients servers disks blocks form head;
-      right = right_begins k clients servers disks blocks form;
+      facts = facts_begin k clients servers disks blocks form head;
       marks = marks_begin k clients servers disks blocks form;
       gone = record { trees_ = trees_begin k clients servers disks blocks form; gone = λ y i. absurd i };
       ranges_ = refl;
     })
-    (throughout_both (none.Known count) (λ past x. TheReportTellsTheLog past x × (ReassertionsNew past x × PlacesHold x.after.world)) [] (steps es t)
-    (none.known_in k clients servers disks blocks form es head events kept)
-    (throughout_both TheReportTellsTheLog (λ past x. ReassertionsNew past x × PlacesHold x.after.world) [] (steps es t) kept.told
-    (throughout_both ReassertionsNew (λ past x. PlacesHold x.after.world) [] (steps es t) (reassertions_new k clients servers disks blocks form es head events)
-    (places_law k clients servers disks blocks form es head))))
+    (known_in k clients servers disks blocks form es head events (safe k clients servers disks blocks form es head events))

@@ -71,7 +71,8 @@ module _ (t : World) (sound : AllSound t) (bs : List Behind) (v : Volume) (agree
   has_missed ino f above a i q =
       sym (ap (λ (b : Pending). b.missed) (marks a i))
       ∙ or_right a.missed (nat_lt 0 (file_of a.ask).ino && not (exists v (file_of a.ask)))
-      (subst (λ g. (nat_lt 0 g.ino && not (exists v g)) ≡ true) (sym same) (and_both (nat_lt 0 ino) (not (exists v (record { server = s; ino = ino }))) above none))
+      (subst (λ g. (nat_lt 0 g.ino && not (exists v g)) ≡ true) (sym same)
+      (and_both (nat_lt 0 ino) (not (exists v (record { server = s; ino = ino }))) above none))
     where
       same : file_of a.ask ≡ record { server = s; ino = ino }
       same =

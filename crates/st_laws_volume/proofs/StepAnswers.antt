@@ -29,7 +29,7 @@ use Rattle.st_laws_volume.proofs.EventAnswers.{AnswersOf, GivesNone, Given, Step
 use Rattle.st_laws_volume.proofs.LogLines.{run_then}
 use Rattle.st_laws_volume.proofs.OpenAnswers.{OfAnswers, at_both, block}
 use Rattle.st_laws_volume.proofs.OpenResults.{AllFine, run_fine}
-use Rattle.st_laws_volume.proofs.Options.{on_more}
+use Rattle.st_laws_volume.proofs.Options.{on_all, on_more}
 use Rattle.st_laws_volume.proofs.SessionEpochs.{EpochsRight}
 use Rattle.st_laws_volume.proofs.StepKinds.{lines_inside}
 use Rattle.st_laws_volume.proofs.ToldSteps.{Told, event_kept}
@@ -40,6 +40,7 @@ use Rattle.st_laws_volume.proofs.UnservedAsks.{WasServed}
 use Rattle.st_volume.specs.declared.step.VolumeStep.{VolumeStep}
 use Rattle.st_volume.specs.declared.step.VolumeStep.TheVariants as kinds
 use Rattle.st_volume.specs.Trees.{Tree}
+use Rattle.st_volume.specs.Volume as volume
 use Rattle.st_volume.specs.Volume.{Pending, Volume, is_ask, run}
 
 -- The trees at each answer of an event are those before its lines.
@@ -59,6 +60,13 @@ lines_trees xs w (o ∷ os) u h =
     (at_both (TreesAt xs) (block w o os) (of_lines w os) u (block_by (TreesAt xs) (trees_silent xs) w o os u (λ c op a e. h))
     (on_more (SameTrees u) (AtEachStep (TreesAt xs) (of_lines w os)) (λ z k. lines_trees xs w os z (k ∙ h)) (run (block w o os) u)
     (run_then (SameTrees u) (before_line o os) (of_line w o) u (line_same w o os u))))
+
+-- If no such fact is needed.
+abbrev pub Any : Volume → Type 0
+Any u = Unit {0}
+
+pub any_lasts : LastsInside Any
+any_lasts i u q h = on_all Any (λ z. tt) (volume.step u i)
 
 module _ (k : net.Config) (count : ℕ) (past : List Step) (t : Traced) (e : Event) (sc : WorldTurn) (happened : world_step t.world e ≡ Ok sc)
     (facts : FactsHold k count past t) (n : FactsHold k count (past ++ step t e sc ∷ []) (traced_after e t sc)) (right : EpochsRight t.world) (it : Witness)
@@ -107,7 +115,8 @@ module _ (k : net.Config) (count : ℕ) (past : List Step) (t : Traced) (e : Eve
         event_fine Goal silent Fact (Fits w r.client (start r) r.input (before r)) past (step t e sc) (takes_one r) it v
         (none_served it.behind v w e r.client r.site r.input r.takes) told asked asks opened
         (on_more (λ u. AllFine (WasServed past w) None u × (SameTrees v u × Lasting u)) (AtEachStep Fact (of_lines w sc.seen))
-        (λ u h. at_two IsOfUndone (λ i z. TreesAt v.trees i z × Lasting z) (of_lines w sc.seen) u (lines_undone k count past t e sc happened facts n u followed h.0)
+        (λ u h. at_two IsOfUndone (λ i z. TreesAt v.trees i z × Lasting z) (of_lines w sc.seen) u
+        (lines_undone k count past t e sc happened facts n u followed h.0)
         (at_two (TreesAt v.trees) (λ i z. Lasting z) (of_lines w sc.seen) u (lines_trees v.trees w sc.seen u h.1.0)
         (lasting_at Lasting lasts (of_lines w sc.seen) u (lines_inside w sc.seen) h.1.1)))
         (run (of_event w e) v)

@@ -180,7 +180,8 @@ module _ (k : net.Config) (count : ℕ) (past : List Step) (t : Traced) (e : Eve
   pub lines_undone : (u : Volume) → all_followed sc.seen ≡ true → AllFine S None u → AtEachStep IsOfUndone (of_lines w sc.seen) u
   lines_undone u followed h = lines_more IsOfUndone silent (FineAt S) w In one sc.seen (λ o i. i) u (lines_fine_at S w sc.seen u followed h)
 
-  event_undone : (it : Witness) (v : Volume) → all_followed sc.seen ≡ true → AllFine S None v → AnswersOf w e sc → AtEachStep IsOfUndone (steps_of it v (step t e sc)) v
+  event_undone : (it : Witness) (v : Volume) → all_followed sc.seen ≡ true → AllFine S None v → AnswersOf w e sc →
+      AtEachStep IsOfUndone (steps_of it v (step t e sc)) v
   event_undone it v followed fine (GivesNone q) =
       event_each IsOfUndone silent w it v sc.seen e (subst (AllFit (λ g. (u : Volume) → IsOfUndone (kinds.Answered g.client g.op g.answer) u)) (sym q) tt)
   event_undone it v followed fine (Steps r) =

@@ -18,6 +18,7 @@ ghost use Rattle.st_laws_volume.specs.Laws.{RunsInParts, StepsShowTheEvent, TheS
 ghost use Rattle.st_laws_volume.specs.Logs.{InEveryRun, LogsAgree};
 ghost use Rattle.st_laws_volume.specs.LossMarks.{LatePagesHaveFailed, LossesAreMet, PagesAreOnce};
 ghost use Rattle.st_laws_volume.specs.NoFileAnswers.{FilesAreMissing};
+ghost use Rattle.st_laws_volume.specs.NoSpaceAnswers.{ServersWereFull};
 ghost use Rattle.st_laws_volume.specs.Notices.{AsksHaveNoticed};
 ghost use Rattle.st_laws_volume.specs.OwedRows.{OwedRowsNameEntries};
 ghost use Rattle.st_laws_volume.specs.Reads.{PagesAgree, ReadsGiveThePages};
@@ -365,6 +366,13 @@ pub fn replies_stay_noticed()
 /// the inode was given only after that.
 pub fn files_are_missing()
     ensures { InEveryRun FilesAreMissing }
+{}
+
+/// In every run each answer `nospace` tells that no block was left and one was wanted, if the
+/// volume has taken all steps before it. It goes to a write or a patch that has no result. Its
+/// server had no free block as it refused a request of the client.
+pub fn servers_were_full()
+    ensures { InEveryRun ServersWereFull }
 {}
 
 /// In every run a file that a server lacked as a step began, although it had given its inode,

@@ -1,0 +1,236 @@
+-- In every run each answer `nospace` goes to a write or a patch without a result: a server refused to map one page, since it had no free block.
+use Rattle.st_lemmas.proofs.Words
+use Words.{◌≡◌, ℕ, ◌+◌, ◌≤◌, arith, Bool, true, false, not, List, [], ◌∷◌, ◌++◌, Option, Some, None, Ok, Err, refl, sym, ap, ◌∙◌, subst, if◌then◌else◌, Result}
+use Words.{eqb-true, leb-false, is_some, nat_le, AllocateRefusal, AppAnswer, Ask, Body, Event, FileId, Header, PageNo, ServerId}
+use Words.answers
+use Words.asks
+use Words.bodies
+use Words.wants
+use Words.why
+use Words.ClientState as cs
+use Words.ClientState.{Association, is_refusal}
+use Words.Events.{WorldTurn, world_step}
+use Words.Extents as extents
+use Words.Extents.{Extents}
+use Words.History.{Traced, traced, traced_after}
+use Words.Keys.{same_server}
+use Words.Lookups.{some_is}
+use Words.Safety.{Step, all_answered_once, all_followed, step}
+use Words.Server as sv
+use Words.Server.{ServerTurn, Stable}
+use Words.Tables.{and_true}
+use Words.Truth.{clash}
+use Words.World.{World, fresh_world, numbered}
+use Rattle.st_base.specs.declared.config.Config.{Config}
+use Rattle.st_protocol.specs.Assoc as net
+use Rattle.st_promises.specs.Safe.{EveryRunIsSafe}
+use Rattle.st_laws_pages.proofs.Asks.World.{asks_of}
+use Rattle.st_laws_refine.specs.Server.Pair.{terms_of}
+use Rattle.st_laws_names.specs.Keys.{behind_thefts, now_at}
+use Rattle.st_laws_names.proofs.Facts.{FactsHold}
+use Rattle.st_laws_volume.specs.AnswerKinds.{IsOfUndone}
+use Rattle.st_laws_volume.specs.Logs.{InEveryRun}
+use Rattle.st_laws_volume.specs.NoSpaceAnswers.{IsNoSpace, IsRefusedBlock, ServersWereFull, WasFull}
+use Rattle.st_laws_volume.specs.Options.{OnSome}
+use Rattle.st_laws_volume.specs.Seen.{of_event}
+use Rattle.st_laws_volume.specs.StepKinds.{AtEachStep}
+use Rattle.st_laws_volume.specs.Witness.{Witness, led_by, steps_of}
+use Rattle.st_laws_volume.proofs.AnswerCauses.{IsOfPage, IsRefusal, Says}
+use Rattle.st_laws_volume.proofs.AnswerFacts.{AllOf, FactsOf, Known, all_of, facts_begin, facts_on, known_in}
+use Rattle.st_laws_volume.proofs.AnswerLines.{step_of}
+use Rattle.st_laws_volume.proofs.Carried.{IsGiven, given_in}
+use Rattle.st_laws_volume.proofs.EventAnswers.{Given, Stepping, event_answers}
+use Rattle.st_laws_volume.proofs.FileReplies as replied
+use Rattle.st_laws_volume.proofs.FileReplies.{Answers, answers}
+use Rattle.st_laws_volume.proofs.NameReplies.{IsNamed, NameReplied, RemovesNot}
+use Rattle.st_laws_volume.proofs.OpenAnswers.{OfAnswers, open_left}
+use Rattle.st_laws_volume.proofs.Options.{on_all, on_more}
+use Rattle.st_laws_volume.proofs.PageRequests.{AllOne, AsksOne, IsOfOne, SessionAsksOne, fresh_one, one_step}
+use Rattle.st_laws_volume.proofs.RefusedRequests.{RefusedBy, refused_by}
+use Rattle.st_laws_volume.proofs.SessionEpochs.{EpochsRight}
+use Rattle.st_laws_volume.proofs.StepAnswers as stepping
+use Rattle.st_laws_volume.proofs.StepAnswers.{Any, any_lasts, before, event_answered, start}
+use Rattle.st_laws_volume.proofs.TreeTurns.{thefts_stable}
+use Rattle.st_laws_volume.proofs.UnservedAsks as none
+use Rattle.st_volume.specs.declared.step.VolumeStep.{VolumeStep}
+use Rattle.st_volume.specs.declared.step.VolumeStep.TheVariants as kinds
+use Rattle.st_volume.specs.Pages.{place_of}
+use Rattle.st_volume.specs.Volume as volume
+use Rattle.st_volume.specs.Volume.{Pending, Volume, run}
+
+-- A server that can't map one page: it has no free block.
+record Lacks (x : Extents) (left wanted : ℕ) : Type 0 where
+  none : left ≡ 0
+  one : wanted ≡ 1
+  full : extents.free x ≡ 0
+
+one_lacks : (x : Extents) (f : FileId) (p : PageNo) (left wanted : ℕ) → extents.allocate x f p 1 ≡ Err (wants.NoSpace left wanted) → Lacks x left wanted
+unfolding extents.allocate extents.allocate_pages extents.numbers
+one_lacks x f p left wanted = go (not (extents.is_mapped x f p))
+  where
+    by : (n : ℕ) (b : Bool) → nat_le n (extents.free x) ≡ b → n ≤ 1 → (y : Extents) →
+        (if b then Ok y else Err (wants.NoSpace (extents.free x) n)) ≡ Err (wants.NoSpace left wanted) → Lacks x left wanted
+    by n true e l y q = cc q
+    by n false e l y q =
+        let z = leb-false n (extents.free x) e in
+        let a = free_is q in
+        let b = wanted_is q in
+        record { none = omega (arith, z, l, a); one = omega (arith, z, l, b); full = omega (arith, z, l) }
+      where
+        free_is : ◌≡◌ {A = Result Extents AllocateRefusal} (Err (wants.NoSpace (extents.free x) n)) (Err (wants.NoSpace left wanted)) → extents.free x ≡ left
+        free_is q = cc
+
+        wanted_is : ◌≡◌ {A = Result Extents AllocateRefusal} (Err (wants.NoSpace (extents.free x) n)) (Err (wants.NoSpace left wanted)) → n ≡ wanted
+        wanted_is q = cc
+
+    go : (b : Bool) → extents.allocate_pages x f (if b then p ∷ [] else []) ≡ Err (wants.NoSpace left wanted) → Lacks x left wanted
+    go true q = by 1 (nat_le 1 (extents.free x)) refl (omega arith) (extents.place_pages f (p ∷ []) x) q
+    go false q = by 0 (nat_le 0 (extents.free x)) refl (omega arith) (extents.place_pages f [] x) q
+
+-- Such a refusal of a request for one page.
+module _ (t : ServerTurn) (h : Header) (b : Body) (one : IsOfOne b) (left wanted : ℕ) where
+  abbrev Says_so : Option Body → Type 0
+  Says_so r = r ≡ Some (bodies.Nack why.NoSpace left wanted)
+
+  lacks_block : (r : Option Body) → Answers t h b r → Says_so r → Lacks t.state.stable.extents left wanted
+  lacks_block _ replied.IsSilent q = cc q
+  lacks_block _ (replied.IsDone r f) q = absurd (clash (ap is_refusal (some_is q)) f)
+  lacks_block _ (replied.IsNoFile i e f) q = cc q
+  lacks_block _ (replied.HoldsNot i g mode e f k) q = cc q
+  lacks_block _ (replied.HasTooMany i mode e) q = cc q
+  lacks_block _ (replied.HasNoSpace i g p count free w e f) q =
+      one_lacks t.state.stable.extents (sv.file t i) p left wanted
+      (ap (λ m. extents.allocate t.state.stable.extents (sv.file t i) p m) (sym (subst IsOfOne e one)) ∙ (f ∙ same q))
+    where
+      same : Says_so (Some (bodies.Nack why.NoSpace free w)) →
+          ◌≡◌ {A = Result Extents AllocateRefusal} (Err (wants.NoSpace free w)) (Err (wants.NoSpace left wanted))
+      same q = cc
+  lacks_block r (replied.IsOfName op _ e k) q = absurd (named r k q)
+    where
+      named : (r : Option Body) → NameReplied t h op r → Says_so r → ⊥
+      named _ (IsNamed reply) q = cc q
+      named _ (RemovesNot dir name g i is l f k) q = cc q
+
+-- A write or a patch of a page, and its server.
+changes_place : (s : ServerId) (ino : ℕ) (p : PageNo) (ask : Ask) → cs.changes_page s ino p ask ≡ true →
+    (is_some (place_of ask) ≡ true) × (volume.server_of ask ≡ s)
+changes_place s ino p (asks.Write f q bytes) e = (refl, ap (λ n. record { 0 = n }) (eqb-true f.server.0 s.0 (and_true (same_server f.server s) _ e).0))
+changes_place s ino p (asks.Patch f q at bytes) e = (refl, ap (λ n. record { 0 = n }) (eqb-true f.server.0 s.0 (and_true (same_server f.server s) _ e).0))
+changes_place s ino p (asks.Read f q) e = cc e
+changes_place s ino p (asks.Sync f) e = cc e
+changes_place s ino p (asks.Cut f q) e = cc e
+changes_place s ino p (asks.Name r ask) e = cc e
+
+-- What holds of an event.
+module _ (k : net.Config) (count : ℕ) (past : List Step) (t : Traced) (e : Event) (sc : WorldTurn) (happened : world_step t.world e ≡ Ok sc)
+    (facts : FactsHold k count past t) (n : FactsHold k count (past ++ step t e sc ∷ []) (traced_after e t sc)) (right : EpochsRight t.world) (it : Witness)
+    (single : AllOne t.world) (v : Volume) where
+  abbrev w : World
+  w = t.world
+
+  abbrev Goal : VolumeStep → Volume → Type 0
+  Goal = IsNoSpace past
+
+  silent : OfAnswers Goal
+  silent (kinds.Answered c op answer) u q = cc
+  silent i u q = tt
+
+  abbrev IsHere : Stepping w e sc → Volume → Given → Pending → Type 0
+  IsHere = stepping.IsGiven k count past t e sc happened facts n right it v Any any_lasts Goal silent
+
+  abbrev asks_then : Stepping w e sc → List (ℕ × Ask)
+  asks_then = start k count past t e sc happened facts n right it v Any any_lasts Goal silent
+
+  abbrev had : Stepping w e sc → List Association
+  had = before k count past t e sc happened facts n right it v Any any_lasts Goal silent
+
+  module _ (r : Stepping w e sc) (u : Volume) (g : Given) (a : Pending) (h : IsHere r u g a) (undone : a.result ≡ None) (left wanted : ℕ)
+      (f : IsRefusal w r.client (asks_then r) r.input (had r) g.op why.NoSpace left wanted IsOfPage) where
+    abbrev s : ServerId
+    s = f.association.server
+
+    z : RefusedBy past r.client s f.request.body (bodies.Nack why.NoSpace left wanted)
+    z =
+        refused_by k count past t facts r.client r.site r.at r.runs e r.input r.takes (asks_then r) g.op why.NoSpace left wanted refl IsOfPage f
+
+    single_body : IsOfOne z.served.sent.message.body
+    single_body =
+        subst IsOfOne (sym z.asks)
+        (subst AsksOne f.outstanding (subst SessionAsksOne f.has (single r.client r.site r.at f.association f.among)))
+
+    abbrev turn : ServerTurn
+    turn = behind_thefts z.y.before.world s z.served.serves.old.state
+
+    lacks : Lacks turn.state.stable.extents left wanted
+    lacks =
+        lacks_block turn z.served.sent.message.header z.served.sent.message.body single_body left wanted
+        (sv.rule turn (now_at z.y.before.world s) z.served.sent.message.header z.served.sent.message.body).reply
+        (answers turn (now_at z.y.before.world s) z.served.sent.message.header z.served.sent.message.body) z.served.serves.replied
+
+    ask_is : a.ask ≡ f.ask
+    ask_is = some_is (sym h.asked ∙ (ap (λ d. numbered (asks_of (past ++ step t e sc ∷ []) d) g.op) h.fits.0 ∙ h.all r.client (g.op, f.ask) f.known))
+
+    place : (is_some (place_of f.ask) ≡ true) × (volume.server_of f.ask ≡ s)
+    place = changes_place s f.concerns.0 f.concerns.1 f.ask f.concerns.4
+
+    refused : IsRefusedBlock past a left wanted
+    refused =
+        record {
+          undone = undone;
+          changes = ap (λ q. is_some (place_of q)) ask_is ∙ place.0;
+          none = lacks.none;
+          one = lacks.one;
+          full =
+              subst (WasFull past) (sym (ap volume.server_of ask_is ∙ place.1))
+              (record {
+                refused = z.y;
+                among = z.among;
+                node = z.served.serves.old;
+                was = z.served.serves.was;
+                none =
+                    ap (λ (y : Stable). extents.free y.extents) (sym (thefts_stable z.served.serves.old.state (now_at z.y.before.world s))) ∙ lacks.full;
+              });
+        }
+
+  one : (r : Stepping w e sc) (u : Volume) (g : Given) (a : Pending) → IsHere r u g a → Goal (step_of g) u
+  one r u g a h = by g.answer h.undone h.fits.1
+    where
+      by : (answer : AppAnswer) → IsOfUndone (kinds.Answered g.client g.op answer) u →
+          Says w r.client (asks_then r) r.input (had r) g.op answer → Goal (kinds.Answered g.client g.op answer) u
+      by (answers.NoSpace left wanted) undone says =
+          λ b q. subst (λ c. IsRefusedBlock past c left wanted) (some_is (sym h.found ∙ q)) (refused r u g a h (undone refl a h.found) left wanted says)
+      by answer undone says = tt
+
+-- In every run.
+FullToo : List Step → Step → Witness → Type 0
+FullToo past x it = OnSome (λ v. AtEachStep (IsNoSpace past) (steps_of it v x) v) it.volume
+
+record FullHold (k : net.Config) (count : ℕ) (past : List Step) (t : Traced) (it : Witness) : Type 0 where
+  facts : FactsOf k count past t it
+  single : AllOne t.world
+
+full_on : (k : net.Config) (count : ℕ) → IsGiven (Known count) (FullHold k count) FullToo
+unfolding FullToo
+full_on k count past t e sc it f g h = (
+  on_more (AllOf past t) (λ v. AtEachStep (IsNoSpace past) (steps_of it v (step t e sc)) v)
+      (λ v m. event_answered k count past t e sc f h.facts.unserved.facts after.unserved.facts h.facts.knows.right it v Any any_lasts (IsNoSpace past)
+      (silent k count past t e sc f h.facts.unserved.facts after.unserved.facts h.facts.knows.right it h.single v)
+      (one k count past t e sc f h.facts.unserved.facts after.unserved.facts h.facts.knows.right it h.single v) m.log.lines m.agree m.asked
+      (open_left past t e sc it f h.facts.asks) (and_true (all_answered_once past (step t e sc) [] sc.seen) (all_followed sc.seen) g.0.1.0).1 m.fine
+      (on_all Any (λ z. tt) (run (of_event t.world e) v)) (event_answers t.world e sc f)) it.volume (all_of k count past t it h.facts),
+  record {
+    facts = after;
+    single = one_step t.world e sc f (λ c site at a i. (h.facts.asks.fates.lives.lives.sites c site at).fit a i) h.single;
+  },
+)
+  where
+    after : FactsOf k count (past ++ step t e sc ∷ []) (traced_after e t sc) (led_by it (step t e sc))
+    after = facts_on k count past t e sc it f g h.facts
+
+pub servers_were_full : EveryRunIsSafe → InEveryRun ServersWereFull
+unfolding FullToo
+servers_were_full safe k clients servers disks blocks form es head events =
+    let count : ℕ = clients + servers in
+    given_in (Known count) (FullHold (terms_of k) count) FullToo (full_on (terms_of k) count) es (traced (fresh_world k clients servers disks blocks form))
+    (record { facts = facts_begin k clients servers disks blocks form head; single = fresh_one k clients servers disks blocks form })
+    (known_in k clients servers disks blocks form es head events (safe k clients servers disks blocks form es head events))
