@@ -107,6 +107,10 @@ abbrev pub IsOfPage : ServerId → Option ℕ → Body → Ask → Type 0
 IsOfPage s file body ask =
     (ino : ℕ) × (p : PageNo) × (file ≡ Some ino) × (cs.page_asked body ≡ Some p) × (cs.changes_page s ino p ask ≡ true)
 
+-- Those of its server, if it is a cut or a remove.
+abbrev pub IsAskedOf : ServerId → Option ℕ → Body → Ask → Type 0
+IsAskedOf s file body ask = (cs.asks_cut_or_remove body ≡ true) × (s ≡ cs.server_of ask)
+
 -- A client's open asks with the one that comes, its input, and what it had of each server.
 module _ (t : World) (c : ClientId) (start : List (ℕ × Ask)) (input : ClientInput) (before : List Association) where
   pub record IsUncertain (op n m : ℕ) : Type 0 where
@@ -158,6 +162,7 @@ module _ (t : World) (c : ClientId) (start : List (ℕ × Ask)) (input : ClientI
   Says op (answers.DiskFault n) = IsFault op n
   Says op answers.NoFile = IsUnknown op ⊎ ((x n : ℕ) × IsRefusal op why.NoFile x n IsOfFile)
   Says op (answers.NoSpace x n) = IsRefusal op why.NoSpace x n IsOfPage
+  Says op answers.NotHolder = (x n : ℕ) × IsRefusal op why.NotHolder x n IsAskedOf
   Says op a = Unit {0}
 
   abbrev pub Fits : Given → Type 0
@@ -168,6 +173,7 @@ module _ (t : World) (c : ClientId) (start : List (ℕ × Ask)) (input : ClientI
   plain_says op (answers.DiskFault n) p = absurd p
   plain_says op answers.NoFile p = absurd p
   plain_says op (answers.NoSpace x n) p = absurd p
+  plain_says op answers.NotHolder p = absurd p
   plain_says op a p = tt
 
   server_is : (s : ServerId) (o : Operation) → cs.is_of s o ≡ true → s ≡ cs.server_of o.ask
@@ -229,7 +235,9 @@ module _ (t : World) (c : ClientId) (start : List (ℕ × Ask)) (input : ClientI
   refused_says now v y q m o _ a b _ i old r e k (walk.HasTooManyLocks _ _ ino f p) = tt
   refused_says now v y q m o _ a b _ i old r e k (walk.HasNoSpace _ _ ino p f g z) =
       refusal_said now v y q m o why.NoSpace a b i old r e k IsOfPage (ino, p, f, g, z)
-  refused_says now v y q m o _ a b _ i old r e k (walk.IsNoHolder _ _ f p) = tt
+  refused_says now v y q m o _ a b _ i old r e k (walk.IsNoHolder _ _ f p) =
+      let z = and_true (cs.is_of v.here.server o) (cs.is_asked_at o.stage) p in
+      (a, b, refusal_said now v y q m o why.NotHolder a b i old r e k IsAskedOf (f, server_is v.here.server o z.0))
 
   waits_so : (v : Turn) (x : PageCommand) (o : Operation) → WaitsFor v x o → Waits v.here.server x o.ask
   waits_so v x o (Reads k e) = inl (k, e)

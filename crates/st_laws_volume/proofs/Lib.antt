@@ -83,6 +83,7 @@ pub mod MarksStay
 pub mod NameReplies
 pub mod NoFileAnswers
 pub mod NoSpaceAnswers
+pub mod NotHolderAnswers
 pub mod Notices
 pub mod NoticesStay
 pub mod OpenAnswers

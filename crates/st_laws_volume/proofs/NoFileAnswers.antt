@@ -223,7 +223,7 @@ module _ (k : net.Config) (count : ℕ) (past : List Step) (t : Traced) (e : Eve
       abbrev s : ServerId
       s = f.association.server
 
-      z : LacksFile past c s (cs.file_asked f.session.cutting f.request.body) x
+      z : LacksFile past c s (cs.file_asked f.session.cutting f.request.body) x m
       z =
           lacks_file past c s f.session.cutting f.request.body x m
           (refused_by k count past t facts c site r.at r.runs e r.input r.takes (asks_then r) g.op why.NoFile x m refl IsOfFile f)
@@ -285,29 +285,33 @@ module _ (k : net.Config) (count : ℕ) (past : List Step) (t : Traced) (e : Eve
       present : (node : ServerNode) → node_of w s ≡ Some node → (b : Bool) → server_names.is_file node.state.stable.names x ≡ b →
           (a.missed ≡ true) ⊎ CameLater past w (volume.file_of a.ask) a.client a.op
       present node at false q = inl (at_mark x' (has_right past (x' ∷ []) x' (inl refl)) node at q low)
-      present node at true q = given (below_or_not x z.old.state.stable.names.next)
+      present node at true q = given (below_or_not x z.served.serves.old.state.stable.names.next)
         where
-          late : z.old.state.stable.names.next ≤ x → (asks_before z.y a.client < a.op) ⊎ (a.op ≤ asks_before z.y a.client) →
+          late : z.served.serves.old.state.stable.names.next ≤ x → (asks_before z.y a.client < a.op) ⊎ (a.op ≤ asks_before z.y a.client) →
               (a.missed ≡ true) ⊎ CameLater past w (volume.file_of a.ask) a.client a.op
-          late l (inr i) = inl (at_mark z.y (has_left past (x' ∷ []) z.y z.among) z.old z.was z.absent i)
+          late l (inr i) = inl (at_mark z.y (has_left past (x' ∷ []) z.y z.among) z.served.serves.old z.served.serves.was z.absent i)
           late l (inl i) =
               inr
-              (subst (λ (f : FileId). CameLater past w f a.client a.op) (sym file_is)
+              (subst (λ (d : ClientId). CameLater past w (volume.file_of a.ask) d a.op) (sym mine)
+              (subst (λ (f : FileId). CameLater past w f c a.op) (sym file_is)
               (record {
                 refused = z.y;
                 among = z.among;
-                before = z.old;
-                was = z.was;
+                life_ = z.life_;
+                epoch_ = z.epoch_;
+                number_ = z.number_;
+                n = m;
+                served = z.served;
                 ungiven = l;
-                later = i;
+                later = subst (λ (d : ClientId). asks_before z.y d < a.op) mine i;
                 node = node;
                 at = at;
                 there = q;
-              }))
+              })))
 
-          given : (x < z.old.state.stable.names.next) ⊎ (z.old.state.stable.names.next ≤ x) →
+          given : (x < z.served.serves.old.state.stable.names.next) ⊎ (z.served.serves.old.state.stable.names.next ≤ x) →
               (a.missed ≡ true) ⊎ CameLater past w (volume.file_of a.ask) a.client a.op
-          given (inl l) = absurd (clash q (no_file (names_at node) x (gone.gone z.y z.among s z.old node x z.was z.absent l at)))
+          given (inl l) = absurd (clash q (no_file (names_at node) x (gone.gone z.y z.among s z.served.serves.old node x z.served.serves.was z.absent l at)))
           given (inr l) = late l (below_or_not (asks_before z.y a.client) a.op)
 
       refused : IsMissing past w u a

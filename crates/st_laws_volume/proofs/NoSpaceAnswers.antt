@@ -1,7 +1,7 @@
 -- In every run each answer `nospace` goes to a write or a patch without a result: a server refused to map one page, since it had no free block.
 use Rattle.st_lemmas.proofs.Words
-use Words.{◌≡◌, ℕ, ◌+◌, ◌≤◌, arith, Bool, true, false, not, List, [], ◌∷◌, ◌++◌, Option, Some, None, Ok, Err, refl, sym, ap, ◌∙◌, subst, if◌then◌else◌, Result}
-use Words.{eqb-true, leb-false, is_some, nat_le, AllocateRefusal, AppAnswer, Ask, Body, Event, FileId, Header, PageNo, ServerId}
+use Words.{◌≡◌, ℕ, ◌+◌, ◌≤◌, arith, Bool, true, false, not, ◌&&◌, ◌==◌, List, [], ◌∷◌, ◌++◌, Option, Some, None, Ok, Err, refl, sym, ap, ◌∙◌, subst, if◌then◌else◌, Result}
+use Words.{eqb-true, leb-false, nat_le, AllocateRefusal, AppAnswer, Ask, Body, ClientId, Event, FileId, GrantNo, Header, PageNo, ServerId}
 use Words.answers
 use Words.asks
 use Words.bodies
@@ -18,8 +18,8 @@ use Words.Lookups.{some_is}
 use Words.Safety.{Step, all_answered_once, all_followed, step}
 use Words.Server as sv
 use Words.Server.{ServerTurn, Stable}
-use Words.Tables.{and_true}
-use Words.Truth.{clash}
+use Words.Tables.{and_true, found_at}
+use Words.Truth.{clash, client_is}
 use Words.World.{World, fresh_world, numbered}
 use Rattle.st_base.specs.declared.config.Config.{Config}
 use Rattle.st_protocol.specs.Assoc as net
@@ -56,7 +56,7 @@ use Rattle.st_volume.specs.declared.step.VolumeStep.{VolumeStep}
 use Rattle.st_volume.specs.declared.step.VolumeStep.TheVariants as kinds
 use Rattle.st_volume.specs.Pages.{place_of}
 use Rattle.st_volume.specs.Volume as volume
-use Rattle.st_volume.specs.Volume.{Pending, Volume, run}
+use Rattle.st_volume.specs.Volume.{Pending, Volume, is_ask, run}
 
 -- A server that can't map one page: it has no free block.
 record Lacks (x : Extents) (left wanted : ℕ) : Type 0 where
@@ -88,20 +88,37 @@ one_lacks x f p left wanted = go (not (extents.is_mapped x f p))
     go false q = by 0 (nat_le 0 (extents.free x)) refl (omega arith) (extents.place_pages f [] x) q
 
 -- Such a refusal of a request for one page.
+record LacksBlock (x : Extents) (b : Body) (left wanted : ℕ) : Type 0 where
+  ino : ℕ
+  g : GrantNo
+  page : PageNo
+  asks : b ≡ bodies.Allocate ino g page 1
+  lacks : Lacks x left wanted
+
 module _ (t : ServerTurn) (h : Header) (b : Body) (one : IsOfOne b) (left wanted : ℕ) where
   abbrev Says_so : Option Body → Type 0
   Says_so r = r ≡ Some (bodies.Nack why.NoSpace left wanted)
 
-  lacks_block : (r : Option Body) → Answers t h b r → Says_so r → Lacks t.state.stable.extents left wanted
+  lacks_block : (r : Option Body) → Answers t h b r → Says_so r → LacksBlock t.state.stable.extents b left wanted
   lacks_block _ replied.IsSilent q = cc q
   lacks_block _ (replied.IsDone r f) q = absurd (clash (ap is_refusal (some_is q)) f)
   lacks_block _ (replied.IsNoFile i e f) q = cc q
   lacks_block _ (replied.HoldsNot i g mode e f k) q = cc q
   lacks_block _ (replied.HasTooMany i mode e) q = cc q
   lacks_block _ (replied.HasNoSpace i g p count free w e f) q =
-      one_lacks t.state.stable.extents (sv.file t i) p left wanted
-      (ap (λ m. extents.allocate t.state.stable.extents (sv.file t i) p m) (sym (subst IsOfOne e one)) ∙ (f ∙ same q))
+      record {
+        ino = i;
+        g = g;
+        page = p;
+        asks = subst (λ m. b ≡ bodies.Allocate i g p m) single e;
+        lacks =
+            one_lacks t.state.stable.extents (sv.file t i) p left wanted
+            (ap (λ m. extents.allocate t.state.stable.extents (sv.file t i) p m) (sym single) ∙ (f ∙ same q));
+      }
     where
+      single : count ≡ 1
+      single = subst IsOfOne e one
+
       same : Says_so (Some (bodies.Nack why.NoSpace free w)) →
           ◌≡◌ {A = Result Extents AllocateRefusal} (Err (wants.NoSpace free w)) (Err (wants.NoSpace left wanted))
       same q = cc
@@ -111,15 +128,27 @@ module _ (t : ServerTurn) (h : Header) (b : Body) (one : IsOfOne b) (left wanted
       named _ (IsNamed reply) q = cc q
       named _ (RemovesNot dir name g i is l f k) q = cc q
 
--- A write or a patch of a page, and its server.
-changes_place : (s : ServerId) (ino : ℕ) (p : PageNo) (ask : Ask) → cs.changes_page s ino p ask ≡ true →
-    (is_some (place_of ask) ≡ true) × (volume.server_of ask ≡ s)
-changes_place s ino p (asks.Write f q bytes) e = (refl, ap (λ n. record { 0 = n }) (eqb-true f.server.0 s.0 (and_true (same_server f.server s) _ e).0))
-changes_place s ino p (asks.Patch f q at bytes) e = (refl, ap (λ n. record { 0 = n }) (eqb-true f.server.0 s.0 (and_true (same_server f.server s) _ e).0))
-changes_place s ino p (asks.Read f q) e = cc e
-changes_place s ino p (asks.Sync f) e = cc e
-changes_place s ino p (asks.Cut f q) e = cc e
-changes_place s ino p (asks.Name r ask) e = cc e
+-- A write or a patch of a page is of this place.
+its_place : (s : ServerId) (ino : ℕ) (p : PageNo) (ask : Ask) → cs.changes_page s ino p ask ≡ true →
+    place_of ask ≡ Some (record { server = s; ino = ino }, p)
+its_place s ino p ask e = by ask e
+  where
+    its : (f : FileId) (q : PageNo) → (same_server f.server s && ((f.ino == ino) && (q.0 == p.0))) ≡ true →
+        ◌≡◌ {A = Option (FileId × PageNo)} (Some (f, q)) (Some (record { server = s; ino = ino }, p))
+    its f q e =
+        let z = and_true (same_server f.server s) ((f.ino == ino) && (q.0 == p.0)) e in
+        let y = and_true (f.ino == ino) (q.0 == p.0) z.1 in
+        ap (λ n. Some (record { server = record { 0 = n }; ino = f.ino }, q)) (eqb-true f.server.0 s.0 z.0)
+        ∙ (ap (λ n. Some (record { server = s; ino = n }, q)) (eqb-true f.ino ino y.0)
+        ∙ ap (λ n. Some (record { server = s; ino = ino }, record { 0 = n })) (eqb-true q.0 p.0 y.1))
+
+    by : (ask : Ask) → cs.changes_page s ino p ask ≡ true → place_of ask ≡ Some (record { server = s; ino = ino }, p)
+    by (asks.Write f q bytes) e = its f q e
+    by (asks.Patch f q at bytes) e = its f q e
+    by (asks.Read f q) e = cc e
+    by (asks.Sync f) e = cc e
+    by (asks.Cut f q) e = cc e
+    by (asks.Name r ask) e = cc e
 
 -- What holds of an event.
 module _ (k : net.Config) (count : ℕ) (past : List Step) (t : Traced) (e : Event) (sc : WorldTurn) (happened : world_step t.world e ≡ Ok sc)
@@ -161,8 +190,8 @@ module _ (k : net.Config) (count : ℕ) (past : List Step) (t : Traced) (e : Eve
     abbrev turn : ServerTurn
     turn = behind_thefts z.y.before.world s z.served.serves.old.state
 
-    lacks : Lacks turn.state.stable.extents left wanted
-    lacks =
+    lacking : LacksBlock turn.state.stable.extents z.served.sent.message.body left wanted
+    lacking =
         lacks_block turn z.served.sent.message.header z.served.sent.message.body single_body left wanted
         (sv.rule turn (now_at z.y.before.world s) z.served.sent.message.header z.served.sent.message.body).reply
         (answers turn (now_at z.y.before.world s) z.served.sent.message.header z.served.sent.message.body) z.served.serves.replied
@@ -170,25 +199,50 @@ module _ (k : net.Config) (count : ℕ) (past : List Step) (t : Traced) (e : Eve
     ask_is : a.ask ≡ f.ask
     ask_is = some_is (sym h.asked ∙ (ap (λ d. numbered (asks_of (past ++ step t e sc ∷ []) d) g.op) h.fits.0 ∙ h.all r.client (g.op, f.ask) f.known))
 
-    place : (is_some (place_of f.ask) ≡ true) × (volume.server_of f.ask ≡ s)
-    place = changes_place s f.concerns.0 f.concerns.1 f.ask f.concerns.4
+    mine : a.client ≡ r.client
+    mine =
+        client_is a.client g.client (and_true (a.client.0 == g.client.0) (a.op == g.op) (found_at (is_ask g.client g.op) u.pending a h.found).0).0
+        ∙ h.fits.0
+
+    body_is : f.request.body ≡ bodies.Allocate lacking.ino lacking.g lacking.page 1
+    body_is = sym z.asks ∙ lacking.asks
+
+    ino_is : f.concerns.0 ≡ lacking.ino
+    ino_is = some_is (sym f.concerns.2 ∙ ap (cs.file_asked f.session.cutting) body_is)
+
+    page_is : f.concerns.1 ≡ lacking.page
+    page_is = some_is (sym f.concerns.3 ∙ ap cs.page_asked body_is)
+
+    place : place_of a.ask ≡ Some (record { server = s; ino = lacking.ino }, lacking.page)
+    place =
+        ap place_of ask_is
+        ∙ its_place s lacking.ino lacking.page f.ask
+        (subst (λ p. cs.changes_page s lacking.ino p f.ask ≡ true) page_is
+        (subst (λ i. cs.changes_page s i f.concerns.1 f.ask ≡ true) ino_is f.concerns.4))
 
     refused : IsRefusedBlock past a left wanted
     refused =
         record {
           undone = undone;
-          changes = ap (λ q. is_some (place_of q)) ask_is ∙ place.0;
-          none = lacks.none;
-          one = lacks.one;
+          none = lacking.lacks.none;
+          one = lacking.lacks.one;
+          file = record { server = s; ino = lacking.ino };
+          page = lacking.page;
+          place = place;
           full =
-              subst (WasFull past) (sym (ap volume.server_of ask_is ∙ place.1))
+              subst (λ (d : ClientId). WasFull past d (record { server = s; ino = lacking.ino }) lacking.page left wanted) (sym mine)
               (record {
                 refused = z.y;
                 among = z.among;
-                node = z.served.serves.old;
-                was = z.served.serves.was;
-                none =
-                    ap (λ (y : Stable). extents.free y.extents) (sym (thefts_stable z.served.serves.old.state (now_at z.y.before.world s))) ∙ lacks.full;
+                life_ = z.life_;
+                epoch_ = z.epoch_;
+                number_ = z.number_;
+                g = lacking.g;
+                served = z.served;
+                asks = lacking.asks;
+                full =
+                    ap (λ (y : Stable). extents.free y.extents) (sym (thefts_stable z.served.serves.old.state (now_at z.y.before.world s)))
+                    ∙ lacking.lacks.full;
               });
         }
 

@@ -13,10 +13,10 @@ use Words.Lists.{Has}
 use Words.Names as names
 use Words.Numbers.{numbered_has}
 use Words.Safety.{Step}
-use Words.Server.{ServerNode, ServerTurn, Stable}
+use Words.Server.{ServerTurn, Stable}
 use Words.Tables.{has_map_in}
 use Words.Truth.{clash}
-use Words.World.{WorldClient, node_of, site_of}
+use Words.World.{WorldClient, site_of}
 use Words.Worlds.{client_at_node}
 use Rattle.st_rules.specs.declared.client.ClientInput.{ClientInput}
 use Rattle.st_protocol.specs.Assoc as net
@@ -133,22 +133,26 @@ file_same cutting (bodies.Cut i g p) ino q = q
 file_same cutting b ino q = cc q
 
 -- What the server of such an event lacked then.
-pub record LacksFile (past : List Step) (c : ClientId) (s : ServerId) (file : Option ℕ) (ino : ℕ) : Type 0 where
+pub record LacksFile (past : List Step) (c : ClientId) (s : ServerId) (file : Option ℕ) (ino n : ℕ) : Type 0 where
   pub y : Step
   pub among : Has y past
-  pub old : ServerNode
-  pub was : node_of y.before.world s ≡ Some old
-  pub absent : names.is_file old.state.stable.names ino ≡ false
+  pub life_ : ℕ
+  pub epoch_ : ℕ
+  pub number_ : ℕ
+  pub served : ServedAt y c s life_ epoch_ number_ (bodies.Nack why.NoFile ino n)
+  pub absent : names.is_file served.serves.old.state.stable.names ino ≡ false
   pub its_file : file ≡ Some ino
 
 pub lacks_file : (past : List Step) (c : ClientId) (s : ServerId) (cutting : Option ℕ) (body : Body) (ino n : ℕ) →
-    RefusedBy past c s body (bodies.Nack why.NoFile ino n) → LacksFile past c s (cs.file_asked cutting body) ino
+    RefusedBy past c s body (bodies.Nack why.NoFile ino n) → LacksFile past c s (cs.file_asked cutting body) ino n
 lacks_file past c s cutting body ino n z =
     record {
       y = z.y;
       among = z.among;
-      old = z.served.serves.old;
-      was = z.served.serves.was;
+      life_ = z.life_;
+      epoch_ = z.epoch_;
+      number_ = z.number_;
+      served = z.served;
       absent =
           sym (ap (λ (x : Stable). names.is_file x.names ino) (thefts_stable z.served.serves.old.state (now_at z.y.before.world s))) ∙ l.none;
       its_file = file_same cutting body ino (ap file_in (sym z.asks) ∙ l.file);

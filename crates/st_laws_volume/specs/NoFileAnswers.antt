@@ -3,24 +3,30 @@ use Rattle.std.specs.Prelude.{◌≡◌, ◌⊎◌, ◌≤◌, ◌<◌, ℕ, tru
 use Rattle.st_base.specs.declared.ids.ClientId.{ClientId}
 use Rattle.st_base.specs.declared.ids.FileId.{FileId}
 use Rattle.st_messages.specs.declared.answer.AppAnswer.TheVariants as answers
+use Rattle.st_messages.specs.declared.message.Body.TheVariants as bodies
+use Rattle.st_messages.specs.declared.message.Why.TheVariants as why
 use Rattle.st_rules.specs.Names.{is_file}
 use Rattle.st_rules.specs.Safety.{Promise, Step}
 use Rattle.st_rules.specs.Server.{ServerNode}
 use Rattle.st_rules.specs.World.{World, node_of}
 use Rattle.st_lemmas.specs.Lists.{Has}
+use Rattle.st_laws_names.specs.Keys.{ServedAt}
 use Rattle.st_laws_volume.specs.Refusals.{asks_before}
 use Rattle.st_laws_volume.specs.StepKinds.{AtEachStepOf}
 use Rattle.st_volume.specs.declared.step.VolumeStep.{VolumeStep}
 use Rattle.st_volume.specs.declared.step.VolumeStep.TheVariants as kinds
 use Rattle.st_volume.specs.Volume.{Pending, Volume, file_of, is_ask, is_sync, server_of, tree_of}
 
--- An ask of a file that exists now came after a server refused a request of its client for the file, and had not given its inode yet.
+-- An ask of a file that exists now came after its server refused a request of its client for the file, and had not given its inode yet.
 pub record CameLater (past : List Step) (w : World) (f : FileId) (c : ClientId) (op : ℕ) : Type 0 where
   pub refused : Step
   pub among : Has refused past
-  pub before : ServerNode
-  pub was : node_of refused.before.world f.server ≡ Some before
-  pub ungiven : before.state.stable.names.next ≤ f.ino
+  pub life_ : ℕ
+  pub epoch_ : ℕ
+  pub number_ : ℕ
+  pub n : ℕ
+  pub served : ServedAt refused c f.server life_ epoch_ number_ (bodies.Nack why.NoFile f.ino n)
+  pub ungiven : served.serves.old.state.stable.names.next ≤ f.ino
   pub later : asks_before refused c < op
   pub node : ServerNode
   pub at : node_of w f.server ≡ Some node

@@ -19,6 +19,7 @@ ghost use Rattle.st_laws_volume.specs.Logs.{InEveryRun, LogsAgree};
 ghost use Rattle.st_laws_volume.specs.LossMarks.{LatePagesHaveFailed, LossesAreMet, PagesAreOnce};
 ghost use Rattle.st_laws_volume.specs.NoFileAnswers.{FilesAreMissing};
 ghost use Rattle.st_laws_volume.specs.NoSpaceAnswers.{ServersWereFull};
+ghost use Rattle.st_laws_volume.specs.NotHolderAnswers.{LocksWereMissing};
 ghost use Rattle.st_laws_volume.specs.Notices.{AsksHaveNoticed};
 ghost use Rattle.st_laws_volume.specs.OwedRows.{OwedRowsNameEntries};
 ghost use Rattle.st_laws_volume.specs.Reads.{PagesAgree, ReadsGiveThePages};
@@ -370,9 +371,16 @@ pub fn files_are_missing()
 
 /// In every run each answer `nospace` tells that no block was left and one was wanted, if the
 /// volume has taken all steps before it. It goes to a write or a patch that has no result. Its
-/// server had no free block as it refused a request of the client.
+/// server had no free block as it refused to map this page for the client.
 pub fn servers_were_full()
     ensures { InEveryRun ServersWereFull }
+{}
+
+/// In every run each answer `notholder` goes to an ask that has no result, if the volume has taken
+/// all steps before it. Its server refused a cut or a remove of the client, which didn't hold the
+/// file under the grant that it named.
+pub fn locks_were_missing()
+    ensures { InEveryRun LocksWereMissing }
 {}
 
 /// In every run a file that a server lacked as a step began, although it had given its inode,
