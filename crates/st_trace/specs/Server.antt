@@ -1,3 +1,4 @@
 pub mod Changing
 pub mod Edits
 pub mod Growth
+pub mod Steps

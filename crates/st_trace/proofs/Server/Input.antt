@@ -36,11 +36,13 @@ use Rattle.st_rules.specs.declared.authority.AcceptRefusal.TheVariants as refusa
 use Rattle.st_rules.specs.declared.locks.AcquireRefusal.TheVariants.{TooManyLocks}
 use Rattle.st_rules.specs.declared.names.EntryRefusal.TheVariants as refused
 use Rattle.st_trace.proofs.Server.Taking.{clash, found_for, again_state, fresh_state}
-use Rattle.st_trace.specs.Server.Edits.{AtThefts, AtInput, NoSends, Begun, Came, Heard, Greeted, Asked, Served, Reasserted, NameRefused, NoLookup, NoCreate}
+use Rattle.st_trace.specs.Server.Steps.{hears, take_of}
+use Rattle.st_trace.specs.Server.Edits.{AtThefts, AtInput, NoSends, Begun, CameOf, HeardOf, GreetedOf, AskedOf, ServedOf, ReassertedOf, NameRefused}
+use Rattle.st_trace.specs.Server.Edits.{NoLookup, NoCreate}
 use Rattle.st_trace.specs.Server.Edits.{NoMkdir, NoRename, NoList, NoEntry, NoRemove, IsFolder, file_in, lock_in, Told, IsAlive, IsHeld, HasTooMany, HasNoRow}
 use Rattle.st_trace.specs.Server.Edits.{IsMapped, IsNoFile, HoldsNot, HasNoSpace, IsNamed, AreListed, IsRefused, RemovesNot, AtOnce, InTurn, Lacks, Ruled}
-use Rattle.st_trace.specs.Server.Edits.{Tells, Acquires, Releases, Allocates, Cuts, Creates, MakesDir, Renames, RemovesDir, RemovesFile, Refused, IsSuspect}
-use Rattle.st_trace.specs.Server.Edits.{GreetsInGrace, OfOtherEpoch, HasNoSession, IsRefusedRows, Edit, TakesTimers, Steals, Welcomes, Begins, Replaces}
+use Rattle.st_trace.specs.Server.Edits.{Tells, Acquires, Releases, Allocates, Cuts, Creates, MakesDir, Renames, RemovesDir, RemovesFile, RefusedOf, IsSuspect}
+use Rattle.st_trace.specs.Server.Edits.{GreetsInGrace, OfOtherEpoch, HasNoSession, IsRefusedRows, EditOf, Edit, TakesTimers, Steals, Welcomes, Begins, Replaces}
 use Rattle.st_trace.specs.Server.Edits.{PutsOff, Sees, Reasserts, Serves, Repeats, Refuses}
 
 -- The thefts.
@@ -117,7 +119,8 @@ thefts_begun n now = steals_begun n (authority.over n.authority now) _ (record {
   quiet = tt;
 })
 
-module _ (n : ServerState) (now : Stamp) (i : ServerInput) (P : ServerTurn → Type 0) (keeps : (t u : ServerTurn) → Edit n now i AtThefts t u → P t → P u) where
+module _ (clients : ℕ → Bool) (n : ServerState) (now : Stamp) (i : ServerInput) (P : ServerTurn → Type 0)
+    (keeps : (t u : ServerTurn) → EditOf clients n now i AtThefts t u → P t → P u) where
   walk_of_steal : (t : ServerTurn) (c : ClientId) (o : Option Session) → sessions.session_of t.state.sessions c ≡ o →
       Has c (authority.over n.authority now) → P t → P (sv.steal_at t c o)
   unfolding sv.steal_at
@@ -130,9 +133,13 @@ module _ (n : ServerState) (now : Stamp) (i : ServerInput) (P : ServerTurn → T
   walk_of_steals (c ∷ cs) t h p = walk_of_steals cs (sv.steal t c) (λ d k. h d (inr k))
       (walk_of_steal t c (sessions.session_of t.state.sessions c) refl (h c (inl refl)) p)
 
-  pub walk_of_thefts : P (turn n []) → P (thefts (turn n []) now)
+  pub walk_of_thefts_of : P (turn n []) → P (thefts (turn n []) now)
   unfolding thefts
-  walk_of_thefts p = walk_of_steals (authority.over n.authority now) _ (λ c h. h) (keeps _ _ (TakesTimers (turn n []) refl) p)
+  walk_of_thefts_of p = walk_of_steals (authority.over n.authority now) _ (λ c h. h) (keeps _ _ (TakesTimers (turn n []) refl) p)
+
+pub walk_of_thefts : (n : ServerState) (now : Stamp) (i : ServerInput) (P : ServerTurn → Type 0) →
+    ((t u : ServerTurn) → Edit n now i AtThefts t u → P t → P u) → P (turn n []) → P (thefts (turn n []) now)
+walk_of_thefts = walk_of_thefts_of sv.is_client_node
 
 -- What rules find.
 
@@ -384,25 +391,25 @@ module _ (now : Stamp) (t : ServerTurn) (h : Header) where
   made m = Silent
 
 -- The rules for a message, right after the thefts: they leave all as it was, or make one change.
-module _ (n : ServerState) (now : Stamp) (m : Message) (t : ServerTurn) (came : Came n now (Control m) t m) where
+module _ (clients : ℕ → Bool) (n : ServerState) (now : Stamp) (m : Message) (t : ServerTurn) (came : CameOf clients n now (Control m) t m) where
   abbrev h : Header
   h = m.header
 
   -- nothing changes, or this one thing
   abbrev pub Once : ServerTurn → Type 0
-  Once u = (u ≡ t) ⊎ Edit n now (Control m) AtInput t u
+  Once u = (u ≡ t) ⊎ EditOf clients n now (Control m) AtInput t u
 
-  refuses : (b : Body) → Refused n now (Control m) t m b → Once (reply t h b)
+  refuses : (b : Body) → RefusedOf clients n now (Control m) t m b → Once (reply t h b)
   refuses b r = inr (Refuses t m b r)
 
   -- A client that isn't a suspect.
   module _ (free : authority.may_ack t.state.authority (sender h) ≡ true) where
-    heard : Heard n now (Control m) t m
+    heard : HeardOf clients n now (Control m) t m
     heard = record { came = came; free = free }
 
     -- Greeting.
     module _ (asks : m.body ≡ bd.Hello) (off : grace.is_on t.state.grace now ≡ false) where
-      greeting : Greeted n now (Control m) t m
+      greeting : GreetedOf clients n now (Control m) t m
       greeting = record { heard = heard; asks = asks; off = off }
 
       -- what becomes of the greeting
@@ -450,7 +457,7 @@ module _ (n : ServerState) (now : Stamp) (m : Message) (t : ServerTurn) (came : 
 
     -- Requests of this epoch.
     module _ (request : is_request m.body ≡ true) (epoch : h.epoch ≡ t.state.stable.epoch.0) where
-      asked : Asked n now (Control m) t m
+      asked : AskedOf clients n now (Control m) t m
       asked = record { heard = heard; request = request; epoch = epoch }
 
       repeats : (b : Body) → sv.take t h ≡ takes.Again b → Once (reply t h b)
@@ -469,7 +476,7 @@ module _ (n : ServerState) (now : Stamp) (m : Message) (t : ServerTurn) (came : 
       walk_of_again takes.Fresh e = inl refl
       walk_of_again takes.OutOfOrder e = inl refl
 
-      walk_of_accept : (rs : List (ℕ × GrantNo × Mode)) → Reasserted n now (Control m) t m rs → (x : Res grace.Accepted AcceptRefusal) →
+      walk_of_accept : (rs : List (ℕ × GrantNo × Mode)) → ReassertedOf clients n now (Control m) t m rs → (x : Res grace.Accepted AcceptRefusal) →
           accept t.state.grace now (sender h) (life_in h) rs t.state.locks t.state.sessions ≡ x → Once (sv.reassert_by t h x)
       unfolding sv.reassert_by
       walk_of_accept rs r (Err q) e = refuses _ (IsRefusedRows rs q r e)
@@ -485,7 +492,7 @@ module _ (n : ServerState) (now : Stamp) (m : Message) (t : ServerTurn) (came : 
           (λ e. walk_of_again (sv.take t h) refl) (λ e. walk_of_accept rs (record { asked = asked; asks = b; new = e }) _ refl)
 
       -- The next request of a session is served.
-      served : sv.take t h ≡ takes.Fresh → Served n now (Control m) t m
+      served : sv.take t h ≡ takes.Fresh → ServedOf clients n now (Control m) t m
       served e =
           let z = found_for t.state.sessions (sender h) (life_in h) (sv.epoch_in h) h.number takes.Fresh
           (λ x. sessions.take_state x h.number ≡ takes.Fresh) e (λ r. cc r) (λ r. cc r) (λ r. cc r) (λ x r. r) in
@@ -504,7 +511,7 @@ module _ (n : ServerState) (now : Stamp) (m : Message) (t : ServerTurn) (came : 
             next = f.next;
           }
 
-      walk_of_made : Served n now (Control m) t m → (a : Replied) → sv.rule t now h m.body ≡ a → Made now t h m.body a → Once (sv.serve h a)
+      walk_of_made : ServedOf clients n now (Control m) t m → (a : Replied) → sv.rule t now h m.body ≡ a → Made now t h m.body a → Once (sv.serve h a)
       unfolding sv.serve sv.keep
       walk_of_made s a e Silent = inl refl
       walk_of_made s a e (Answered u b r) = inr (Serves t m u b s e r)
@@ -552,20 +559,32 @@ module _ (n : ServerState) (now : Stamp) (m : Message) (t : ServerTurn) (came : 
       none_runs (Some s) e = cc
   walk_of_by_suspicion (Some start) e = walk_of_refuse start m.body refl e
 
+  -- a message of a client
+  pub received_once : Once (sv.receive_from t now h m.body)
+  unfolding sv.receive_from
+  received_once = walk_of_by_suspicion _ refl
+
 -- What the input of a step does, right after the thefts: nothing, or one change.
-pub input_once : (n : ServerState) (now : Stamp) (i : ServerInput) →
-    (sv.take_input (thefts (turn n []) now) now i ≡ thefts (turn n []) now) ⊎ Edit n now i AtInput (thefts (turn n []) now)
-    (sv.take_input (thefts (turn n []) now) now i)
-unfolding sv.take_input sv.receive sv.receive_from
-input_once n now Tick = inl refl
-input_once n now (Control m) =
-    cond_either (λ u. (u ≡ thefts (turn n []) now) ⊎ Edit n now (Control m) AtInput (thefts (turn n []) now) u)
-    (sv.is_for (thefts (turn n []) now).state m.header) _ (thefts (turn n []) now)
+pub input_once_of : (clients : ℕ → Bool) (n : ServerState) (now : Stamp) (i : ServerInput) →
+    (take_of clients (thefts (turn n []) now) now i ≡ thefts (turn n []) now) ⊎
+    EditOf clients n now i AtInput (thefts (turn n []) now) (take_of clients (thefts (turn n []) now) now i)
+input_once_of clients n now Tick = inl refl
+input_once_of clients n now (Control m) =
+    cond_either (λ u. (u ≡ thefts (turn n []) now) ⊎ EditOf clients n now (Control m) AtInput (thefts (turn n []) now) u)
+    (hears clients (thefts (turn n []) now).state m.header) _ (thefts (turn n []) now)
     (λ e. let z = and_true (m.header.to == server_node (thefts (turn n []) now).state.id) _ e in
-    walk_of_by_suspicion n now m (thefts (turn n []) now) (record {
+    received_once clients n now m (thefts (turn n []) now) (record {
       is = refl;
       first = refl;
       begun = thefts_begun n now;
       from = z.1;
       there = eqb-true _ _ z.0;
-    }) _ refl) (λ e. inl refl)
+    })) (λ e. inl refl)
+
+-- the same in the first two forms
+pub input_once : (n : ServerState) (now : Stamp) (i : ServerInput) →
+    (sv.take_input (thefts (turn n []) now) now i ≡ thefts (turn n []) now) ⊎ Edit n now i AtInput (thefts (turn n []) now)
+    (sv.take_input (thefts (turn n []) now) now i)
+unfolding sv.take_input sv.receive
+input_once n now Tick = inl refl
+input_once n now (Control m) = input_once_of sv.is_client_node n now (Control m)

@@ -5,7 +5,6 @@ use Words.{Life, Body, Session, SessionState, Taken}
 use Words.states
 use Words.takes
 use Words.Sessions as sessions
-use Words.Server.{reply}
 
 pub if_cases : {A : Type 0} (P : A → Type 0) (b : Bool) (x y : A) → (b ≡ true → P x) → (b ≡ false → P y) → P (if b then x else y)
 if_cases P true x y p q = p refl

@@ -1,6 +1,6 @@
 -- The rules of the server, walked once: what every change of a step keeps, the step keeps.
 use Rattle.st_lemmas.proofs.Words
-use Words.{◌≡◌, ℕ, zero, suc, ◌+◌, Bool, true, false, List, [], ◌∷◌, ◌++◌, ◌==◌, refl, sym, ap, ◌∙◌, subst, inl, inr, ◌⊎◌, cond, not, find, filter, map, length}
+use Words.{◌≡◌, ℕ, zero, suc, Bool, true, false, List, [], ◌∷◌, ◌++◌, ◌==◌, refl, sym, ap, ◌∙◌, subst, inl, inr, ◌⊎◌, cond, not, find, filter, map, length}
 use Words.{Option, Some, None, list_any, eqb-true, ClientId, GrantNo, Life, Stamp, Config, Mode, ServerInput, LockRow, RowDemand, Waiter}
 use Words.bodies as bd
 use Words.serving.{Tick, Control}
@@ -15,8 +15,9 @@ use Words.Server.{ServerState, ServerTurn, turn, with_locks, tell, thefts, suspe
 use Words.Lists.{Has}
 use Words.Tables.{cond_either, and_true, found_at, has_map, has_filter}
 use Rattle.st_lemmas.proofs.Keys.{rising_has}
-use Rattle.st_trace.specs.Server.Edits.{NoSends, Phase, AtThefts, AtInput, AtSuspicion, AtGrants, AtDemands, Edit, Suspects, Grants, Demands}
-use Rattle.st_trace.proofs.Server.Input.{thefts_begun, no_sends_note, walk_of_thefts, input_once}
+use Rattle.st_trace.specs.Server.Edits.{NoSends, Phase, AtThefts, AtInput, AtSuspicion, AtGrants, AtDemands, EditOf, Edit, Suspects, Grants, Demands}
+use Rattle.st_trace.specs.Server.Steps.{step_of, take_of}
+use Rattle.st_trace.proofs.Server.Input.{thefts_begun, no_sends_note, walk_of_thefts_of, walk_of_thefts, input_once_of, input_once}
 
 -- The input, from a fact that holds after the thefts to another.
 module _ (n : ServerState) (now : Stamp) (i : ServerInput) (P Q : ServerTurn → Type 0) (becomes : (t : ServerTurn) → P t → Q t)
@@ -34,8 +35,8 @@ own_wait : (ws : List Waiter) (w : Waiter) (ino : ℕ) → find (locks.is_wait_o
 own_wait ws w ino e = subst (λ f. find (locks.is_wait_on f) ws ≡ Some w) (sym (eqb-true w.ino ino (found_at (locks.is_wait_on ino) ws w e).0)) e
 
 -- Suspicion.
-module _ (n : ServerState) (now : Stamp) (i : ServerInput) (P : ServerTurn → Type 0) (keeps : (t u : ServerTurn) → Edit n now i AtSuspicion t u →
-    P t → P u) where
+module _ (is_client : ℕ → Bool) (n : ServerState) (now : Stamp) (i : ServerInput) (P : ServerTurn → Type 0)
+    (keeps : (t u : ServerTurn) → EditOf is_client n now i AtSuspicion t u → P t → P u) where
   -- what suspicion leaves: the settings, the rows, and that nothing was sent
   record Suspecting (k : Config) (rows : List LockRow) (t : ServerTurn) : Type 0 where
     holds : P t
@@ -66,9 +67,9 @@ module _ (n : ServerState) (now : Stamp) (i : ServerInput) (P : ServerTurn → T
       (cond_either (Suspecting k rows) (authority.may_ack t.state.authority c) (suspect_client t now c) t (λ q. let z = f c (inl refl) in
       suspected k rows t c is z.0 z.1 z.2 z.3 q s) (λ q. s))
 
-  pub walk_of_suspecting : (t : ServerTurn) → i ≡ Tick → NoSends t.out → P t → P (sv.suspecting t now)
+  pub walk_of_suspecting_of : (t : ServerTurn) → i ≡ Tick → NoSends t.out → P t → P (sv.suspecting t now)
   unfolding sv.suspecting locks.unanswered
-  walk_of_suspecting t is q p =
+  walk_of_suspecting_of t is q p =
       (walk_of_suspects t.state.config t.state.locks.rows _ t is
       (λ c k. let a = has_map client (rising (map locks.client_of_row (filter (locks.is_overdue t.state.config now) t.state.locks.rows))) c k in
       let b = has_map locks.client_of_row (filter (locks.is_overdue t.state.config now) t.state.locks.rows) a.0 (rising_has _ a.0 a.1) in
@@ -76,8 +77,13 @@ module _ (n : ServerState) (now : Stamp) (i : ServerInput) (P : ServerTurn → T
       (b.0, f.0, sym (a.2 ∙ ap client b.2), f.1))
       (record { holds = p; config_stays = refl; rows_stay = refl; quiet = q })).holds
 
+pub walk_of_suspecting : (n : ServerState) (now : Stamp) (i : ServerInput) (P : ServerTurn → Type 0) →
+    ((t u : ServerTurn) → Edit n now i AtSuspicion t u → P t → P u) → (t : ServerTurn) → i ≡ Tick → NoSends t.out → P t → P (sv.suspecting t now)
+walk_of_suspecting = walk_of_suspecting_of sv.is_client_node
+
 -- Granting: each grant with its message.
-module _ (n : ServerState) (now : Stamp) (i : ServerInput) (P : ServerTurn → Type 0) (keeps : (t u : ServerTurn) → Edit n now i AtGrants t u → P t → P u) where
+module _ (is_client : ℕ → Bool) (n : ServerState) (now : Stamp) (i : ServerInput) (P : ServerTurn → Type 0)
+    (keeps : (t u : ServerTurn) → EditOf is_client n now i AtGrants t u → P t → P u) where
   waiter_free : (l : Locks) (o : Option Waiter) (w : Waiter) → grantable l o ≡ Some w → list_any (stands_against w.client w.ino w.mode) l.rows ≡ false
   waiter_free l None w e = cc
   waiter_free l (Some v) w e = go (list_any (stands_against v.client v.ino v.mode) l.rows) refl e
@@ -155,10 +161,14 @@ module _ (n : ServerState) (now : Stamp) (i : ServerInput) (P : ServerTurn → T
   walk_of_files t [] p off q = q
   walk_of_files t (ino ∷ inos) p off q = walk_of_files t inos _ off (walk_of_file t ino (length p.locks.waiters) p off q)
 
-  pub walk_of_granting : (t : ServerTurn) → P t → P (sv.granting t now)
+  pub walk_of_granting_of : (t : ServerTurn) → P t → P (sv.granting t now)
   unfolding sv.granting sv.grant_waiting sv.grant_by next_grants tell_granted
-  walk_of_granting t p = cond_either P (sv.in_grace t now) t _ (λ e. p)
+  walk_of_granting_of t p = cond_either P (sv.in_grace t now) t _ (λ e. p)
       (λ e. walk_of_files t (locks.waited_files t.state.locks) (locks.nothing_granted t.state.locks) e p)
+
+pub walk_of_granting : (n : ServerState) (now : Stamp) (i : ServerInput) (P : ServerTurn → Type 0) →
+    ((t u : ServerTurn) → Edit n now i AtGrants t u → P t → P u) → (t : ServerTurn) → P t → P (sv.granting t now)
+walk_of_granting = walk_of_granting_of sv.is_client_node
 
 -- what a change of each member leaves of those that a test picks
 picked_stay : {A B : Type 0} (f : A → A) (test : A → Bool) (read : A → B) → ((x : A) → test (f x) ≡ test x) → ((x : A) → read (f x) ≡ read x) → (xs : List A) →
@@ -191,7 +201,8 @@ to_demand_stays l suspects w r x =
     named y false = refl
 
 -- Demanding: each demand with its message.
-module _ (n : ServerState) (now : Stamp) (i : ServerInput) (P : ServerTurn → Type 0) (keeps : (t u : ServerTurn) → Edit n now i AtDemands t u → P t → P u) where
+module _ (is_client : ℕ → Bool) (n : ServerState) (now : Stamp) (i : ServerInput) (P : ServerTurn → Type 0)
+    (keeps : (t u : ServerTurn) → EditOf is_client n now i AtDemands t u → P t → P u) where
   abbrev DemandsTold : ServerTurn → Demanding → ServerTurn
   DemandsTold t p = tell_demanded p.due (with_locks p.locks t)
 
@@ -288,9 +299,13 @@ module _ (n : ServerState) (now : Stamp) (i : ServerInput) (P : ServerTurn → T
   walk_of_demand_files t [] p q = q
   walk_of_demand_files t (ino ∷ inos) p q = walk_of_demand_files t inos _ (walk_of_for t ino (find (locks.is_wait_on ino) p.locks.waiters) p refl q)
 
-  pub walk_of_demanding : (t : ServerTurn) → P t → P (sv.demanding t now i)
+  pub walk_of_demanding_of : (t : ServerTurn) → P t → P (sv.demanding t now i)
   unfolding sv.demanding sv.demand_by demands_due tell_demanded
-  walk_of_demanding t p = walk_of_demand_files t (locks.waited_files t.state.locks) (locks.nothing_demanded t.state.locks) p
+  walk_of_demanding_of t p = walk_of_demand_files t (locks.waited_files t.state.locks) (locks.nothing_demanded t.state.locks) p
+
+pub walk_of_demanding : (n : ServerState) (now : Stamp) (i : ServerInput) (P : ServerTurn → Type 0) →
+    ((t u : ServerTurn) → Edit n now i AtDemands t u → P t → P u) → (t : ServerTurn) → P t → P (sv.demanding t now i)
+walk_of_demanding = walk_of_demanding_of sv.is_client_node
 
 -- The step after its thefts.
 pub walk_after_thefts : (n : ServerState) (now : Stamp) (i : ServerInput) (P : ServerTurn → Type 0) →
@@ -327,3 +342,26 @@ walk_on n now i P k p = walk_after_thefts n now i P (k AtInput) (k AtSuspicion) 
 pub walk : (n : ServerState) (now : Stamp) (i : ServerInput) (P : ServerTurn → Type 0) → ((a : Phase) (t u : ServerTurn) → Edit n now i a t u → P t → P u) →
     P (turn n []) → P (server_step n now i)
 walk n now i P k p = walk_on n now i P k (walk_of_thefts n now i P (k AtThefts) p)
+
+-- the same of a step that hears other nodes
+pub walk_of : (is_client : ℕ → Bool) (n : ServerState) (now : Stamp) (i : ServerInput) (P : ServerTurn → Type 0) →
+    ((a : Phase) (t u : ServerTurn) → EditOf is_client n now i a t u → P t → P u) → P (turn n []) → P (step_of is_client n now i)
+unfolding sv.suspecting_on
+walk_of is_client n now Tick P k p =
+    walk_of_demanding_of is_client n now Tick P (k AtDemands) _ (walk_of_granting_of is_client n now Tick P (k AtGrants) _
+    (walk_of_suspecting_of is_client n now Tick P (k AtSuspicion) (thefts (turn n []) now) refl (thefts_begun n now).quiet
+    (walk_of_thefts_of is_client n now Tick P (k AtThefts) p)))
+walk_of is_client n now (Control m) P k p =
+    walk_of_demanding_of is_client n now (Control m) P (k AtDemands) _ (walk_of_granting_of is_client n now (Control m) P (k AtGrants) _
+    (go (input_once_of is_client n now (Control m))))
+  where
+    t0 : ServerTurn
+    t0 = thefts (turn n []) now
+
+    began : P t0
+    began = walk_of_thefts_of is_client n now (Control m) P (k AtThefts) p
+
+    go : (take_of is_client t0 now (Control m) ≡ t0) ⊎ EditOf is_client n now (Control m) AtInput t0 (take_of is_client t0 now (Control m)) →
+        P (take_of is_client t0 now (Control m))
+    go (inl e) = subst P (sym e) began
+    go (inr x) = k AtInput t0 _ x began

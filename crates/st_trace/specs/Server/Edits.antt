@@ -70,27 +70,27 @@ pub record Begun (n : ServerState) (t : ServerTurn) : Type 0 where
   pub quiet : NoSends t.out
 
 -- A client's message to this server comes, right after the thefts.
-pub record Came (n : ServerState) (now : Stamp) (i : ServerInput) (t : ServerTurn) (m : Message) : Type 0 where
+pub record CameOf (clients : ℕ → Bool) (n : ServerState) (now : Stamp) (i : ServerInput) (t : ServerTurn) (m : Message) : Type 0 where
   pub is : i ≡ Control m
   pub first : t ≡ thefts (turn n []) now
   pub begun : Begun n t
-  pub from : is_client_node m.header.from ≡ true
+  pub from : clients m.header.from ≡ true
   pub there : m.header.to ≡ server_node t.state.id
 
 -- and the client isn't a suspect
-pub record Heard (n : ServerState) (now : Stamp) (i : ServerInput) (t : ServerTurn) (m : Message) : Type 0 where
-  pub came : Came n now i t m
+pub record HeardOf (clients : ℕ → Bool) (n : ServerState) (now : Stamp) (i : ServerInput) (t : ServerTurn) (m : Message) : Type 0 where
+  pub came : CameOf clients n now i t m
   pub free : authority.may_ack t.state.authority (sender m.header) ≡ true
 
 -- it greets, outside grace
-pub record Greeted (n : ServerState) (now : Stamp) (i : ServerInput) (t : ServerTurn) (m : Message) : Type 0 where
-  pub heard : Heard n now i t m
+pub record GreetedOf (clients : ℕ → Bool) (n : ServerState) (now : Stamp) (i : ServerInput) (t : ServerTurn) (m : Message) : Type 0 where
+  pub heard : HeardOf clients n now i t m
   pub asks : m.body ≡ bodies.Hello
   pub off : grace.is_on t.state.grace now ≡ false
 
 -- it asks for something in this epoch
-pub record Asked (n : ServerState) (now : Stamp) (i : ServerInput) (t : ServerTurn) (m : Message) : Type 0 where
-  pub heard : Heard n now i t m
+pub record AskedOf (clients : ℕ → Bool) (n : ServerState) (now : Stamp) (i : ServerInput) (t : ServerTurn) (m : Message) : Type 0 where
+  pub heard : HeardOf clients n now i t m
   pub request : is_request m.body ≡ true
   pub epoch : m.header.epoch ≡ t.state.stable.epoch.0
 
@@ -104,15 +104,16 @@ pub record InLife (t : ServerTurn) (h : Header) : Type 0 where
   pub state : session.state ≡ Live last old
 
 -- and it is the next one of its session
-pub record Served (n : ServerState) (now : Stamp) (i : ServerInput) (t : ServerTurn) (m : Message) : Type 0 where
-  pub asked : Asked n now i t m
+pub record ServedOf (clients : ℕ → Bool) (n : ServerState) (now : Stamp) (i : ServerInput) (t : ServerTurn) (m : Message) : Type 0 where
+  pub asked : AskedOf clients n now i t m
   pub fresh : sv.take t m.header ≡ takes.Fresh
   pub in_life : InLife t m.header
   pub next : m.header.number ≡ in_life.last + 1
 
 -- it reasserts locks in a life that is new
-pub record Reasserted (n : ServerState) (now : Stamp) (i : ServerInput) (t : ServerTurn) (m : Message) (rows : List (ℕ × GrantNo × Mode)) : Type 0 where
-  pub asked : Asked n now i t m
+pub record ReassertedOf (clients : ℕ → Bool) (n : ServerState) (now : Stamp) (i : ServerInput) (t : ServerTurn) (m : Message) (rows : List (ℕ × GrantNo × Mode))
+    : Type 0 where
+  pub asked : AskedOf clients n now i t m
   pub asks : m.body ≡ bodies.Reassert rows
   pub new : sessions.knows t.state.sessions (sender m.header) (life_in m.header) ≡ false
 
@@ -218,16 +219,17 @@ pub data Ruled (now : Stamp) (t : ServerTurn) (h : Header) : Body → ServerTurn
       Ruled now t h (bodies.Name (ops.Remove dir x g)) (cut_whole (with_names d.names t) d.ino) (bodies.Named (replies.Ino d.ino))
 
 -- Why a message is refused with a reply that is not kept.
-pub data Refused (n : ServerState) (now : Stamp) (i : ServerInput) (t : ServerTurn) (m : Message) : Body → Type 0 where
-  IsSuspect : (start : Stamp) → Came n now i t m → is_request m.body ≡ true → authority.started t.state.authority (sender m.header) ≡ Some start →
-      Refused n now i t m (bodies.Nack why.Suspect start.0 0)
-  GreetsInGrace : Heard n now i t m → m.body ≡ bodies.Hello → grace.is_on t.state.grace now ≡ true →
-      Refused n now i t m (bodies.Nack why.Grace (grace.grace_start t.state.grace).0 0)
-  OfOtherEpoch : Heard n now i t m → is_request m.body ≡ true → Refused n now i t m (bodies.Nack why.OtherEpoch m.header.epoch t.state.stable.epoch.0)
-  HasNoSession : Asked n now i t m → sv.take t m.header ≡ takes.NoSession → Refused n now i t m (bodies.Nack why.NoSession 0 0)
-  IsRefusedRows : (rows : List (ℕ × GrantNo × Mode)) (r : AcceptRefusal) → Reasserted n now i t m rows →
+pub data RefusedOf (clients : ℕ → Bool) (n : ServerState) (now : Stamp) (i : ServerInput) (t : ServerTurn) (m : Message) : Body → Type 0 where
+  IsSuspect : (start : Stamp) → CameOf clients n now i t m → is_request m.body ≡ true → authority.started t.state.authority (sender m.header) ≡ Some start →
+      RefusedOf clients n now i t m (bodies.Nack why.Suspect start.0 0)
+  GreetsInGrace : HeardOf clients n now i t m → m.body ≡ bodies.Hello → grace.is_on t.state.grace now ≡ true →
+      RefusedOf clients n now i t m (bodies.Nack why.Grace (grace.grace_start t.state.grace).0 0)
+  OfOtherEpoch : HeardOf clients n now i t m → is_request m.body ≡ true →
+      RefusedOf clients n now i t m (bodies.Nack why.OtherEpoch m.header.epoch t.state.stable.epoch.0)
+  HasNoSession : AskedOf clients n now i t m → sv.take t m.header ≡ takes.NoSession → RefusedOf clients n now i t m (bodies.Nack why.NoSession 0 0)
+  IsRefusedRows : (rows : List (ℕ × GrantNo × Mode)) (r : AcceptRefusal) → ReassertedOf clients n now i t m rows →
       grace.accept t.state.grace now (sender m.header) (life_in m.header) rows t.state.locks t.state.sessions ≡ Err r →
-      Refused n now i t m (refused_reassertion r)
+      RefusedOf clients n now i t m (refused_reassertion r)
 
 -- The parts of a step, in their order.
 pub data Phase : Type 0 where
@@ -238,53 +240,89 @@ pub data Phase : Type 0 where
   AtDemands : Phase
 
 -- One change of a step that began in the state n, at a moment and with an input.
-pub data Edit (n : ServerState) (now : Stamp) (i : ServerInput) : Phase → ServerTurn → ServerTurn → Type 0 where
+pub data EditOf (clients : ℕ → Bool) (n : ServerState) (now : Stamp) (i : ServerInput) : Phase → ServerTurn → ServerTurn → Type 0 where
   -- Before the input: the timers that are over are taken out, and their clients' locks are stolen.
-  TakesTimers : (t : ServerTurn) → t ≡ turn n [] → Edit n now i AtThefts t (with_authority (authority.still_running t.state.authority now) t)
+  TakesTimers : (t : ServerTurn) → t ≡ turn n [] → EditOf clients n now i AtThefts t (with_authority (authority.still_running t.state.authority now) t)
   Steals : (t : ServerTurn) (c : ClientId) (s : Session) → Has c (authority.over n.authority now) → sessions.session_of t.state.sessions c ≡ Some s →
-      Edit n now i AtThefts t (steal_from t c s)
+      EditOf clients n now i AtThefts t (steal_from t c s)
   -- The input: at most one of these, with its reply.
-  Welcomes : (t : ServerTurn) (m : Message) (s : Session) → Greeted n now i t m → sessions.session_of t.state.sessions (sender m.header) ≡ Some s →
+  Welcomes : (t : ServerTurn) (m : Message) (s : Session) → GreetedOf clients n now i t m → sessions.session_of t.state.sessions (sender m.header) ≡ Some s →
       sessions.is_live s ≡ true →
-      s.life.0 ≡ m.header.life → Edit n now i AtInput t (reply t m.header bodies.Welcome)
-  Begins : (t : ServerTurn) (m : Message) → Greeted n now i t m →
+      s.life.0 ≡ m.header.life → EditOf clients n now i AtInput t (reply t m.header bodies.Welcome)
+  Begins : (t : ServerTurn) (m : Message) → GreetedOf clients n now i t m →
       ((s : Session) → sessions.session_of t.state.sessions (sender m.header) ≡ Some s → (sessions.is_live s ≡ false) × (s.life.0 < m.header.life)) →
-      Edit n now i AtInput t (reply (with_sessions (sessions.with_new_session (sender m.header) (life_in m.header) t.state.sessions) t) m.header bodies.Welcome)
-  Replaces : (t : ServerTurn) (m : Message) (s : Session) → Greeted n now i t m → sessions.session_of t.state.sessions (sender m.header) ≡ Some s →
+      EditOf clients n now i AtInput t
+      (reply (with_sessions (sessions.with_new_session (sender m.header) (life_in m.header) t.state.sessions) t) m.header bodies.Welcome)
+  Replaces : (t : ServerTurn) (m : Message) (s : Session) → GreetedOf clients n now i t m → sessions.session_of t.state.sessions (sender m.header) ≡ Some s →
       sessions.is_live s ≡ true →
       s.life.0 < m.header.life → locks.has_rows t.state.locks (sender m.header) ≡ false →
-      Edit n now i AtInput t
+      EditOf clients n now i AtInput t
       (reply (with_locks (locks.drop_waits t.state.locks (sender m.header))
       (with_sessions (sessions.with_new_session (sender m.header) (life_in m.header) t.state.sessions) t))
       m.header bodies.Welcome)
-  PutsOff : (t : ServerTurn) (m : Message) (s : Session) → Greeted n now i t m → sessions.session_of t.state.sessions (sender m.header) ≡ Some s →
+  PutsOff : (t : ServerTurn) (m : Message) (s : Session) → GreetedOf clients n now i t m → sessions.session_of t.state.sessions (sender m.header) ≡ Some s →
       sessions.is_live s ≡ true →
       s.life.0 < m.header.life → locks.has_rows t.state.locks (sender m.header) ≡ true →
-      Edit n now i AtInput t (reply (suspect_client t now (sender m.header)) m.header (bodies.Nack why.Suspect now.0 0))
-  Sees : (t : ServerTurn) (m : Message) (ino : ℕ) (g : GrantNo) → Heard n now i t m → m.body ≡ bodies.DemandSeen ino g → sv.is_served t m.header ≡ true →
-      Edit n now i AtInput t (with_locks (locks.demand_seen t.state.locks (sender m.header) ino g) t)
-  Reasserts : (t : ServerTurn) (m : Message) (rows : List (ℕ × GrantNo × Mode)) → Reasserted n now i t m rows → grace.is_on t.state.grace now ≡ true →
+      EditOf clients n now i AtInput t (reply (suspect_client t now (sender m.header)) m.header (bodies.Nack why.Suspect now.0 0))
+  Sees : (t : ServerTurn) (m : Message) (ino : ℕ) (g : GrantNo) → HeardOf clients n now i t m → m.body ≡ bodies.DemandSeen ino g →
+      sv.is_served t m.header ≡ true →
+      EditOf clients n now i AtInput t (with_locks (locks.demand_seen t.state.locks (sender m.header) ino g) t)
+  Reasserts : (t : ServerTurn) (m : Message) (rows : List (ℕ × GrantNo × Mode)) → ReassertedOf clients n now i t m rows → grace.is_on t.state.grace now ≡ true →
       first_conflict t.state.locks (sender m.header) rows ≡ None →
-      Edit n now i AtInput t
+      EditOf clients n now i AtInput t
       (reply (with_sessions (sessions.reasserted t.state.sessions (sender m.header) (life_in m.header))
       (with_locks (with_rows t.state.locks (sender m.header) (life_in m.header) rows) t)) m.header bodies.Reasserted)
-  Serves : (t : ServerTurn) (m : Message) (u : ServerTurn) (b : Body) → Served n now i t m → sv.rule t now m.header m.body ≡ sv.replied u b →
+  Serves : (t : ServerTurn) (m : Message) (u : ServerTurn) (b : Body) → ServedOf clients n now i t m → sv.rule t now m.header m.body ≡ sv.replied u b →
       Ruled now t m.header m.body u b →
-      Edit n now i AtInput t (keep_and_reply u m.header b)
-  Repeats : (t : ServerTurn) (m : Message) (s : Session) (b : Body) → Asked n now i t m → sv.take t m.header ≡ takes.Again b →
+      EditOf clients n now i AtInput t (keep_and_reply u m.header b)
+  Repeats : (t : ServerTurn) (m : Message) (s : Session) (b : Body) → AskedOf clients n now i t m → sv.take t m.header ≡ takes.Again b →
       sessions.session_of t.state.sessions (sender m.header) ≡ Some s → s.life.0 ≡ m.header.life → s.state ≡ Live m.header.number (Some b) →
-      Edit n now i AtInput t (reply t m.header b)
-  Refuses : (t : ServerTurn) (m : Message) (b : Body) → Refused n now i t m b → Edit n now i AtInput t (reply t m.header b)
+      EditOf clients n now i AtInput t (reply t m.header b)
+  Refuses : (t : ServerTurn) (m : Message) (b : Body) → RefusedOf clients n now i t m b → EditOf clients n now i AtInput t (reply t m.header b)
   -- After the input: suspicion, grants and demands, each with its message.
   Suspects : (t : ServerTurn) (c : ClientId) (r : LockRow) → i ≡ Tick → NoSends t.out → authority.may_ack t.state.authority c ≡ true →
       Has r t.state.locks.rows → r.client ≡ c →
-      is_overdue t.state.config now r ≡ true → Edit n now i AtSuspicion t (suspect_client t now c)
+      is_overdue t.state.config now r ≡ true → EditOf clients n now i AtSuspicion t (suspect_client t now c)
   Grants : (t : ServerTurn) (w : Waiter) → grace.is_on t.state.grace now ≡ false → Has w t.state.locks.waiters →
       find (is_wait_on w.ino) t.state.locks.waiters ≡ Some w →
       list_any (stands_against w.client w.ino w.mode) t.state.locks.rows ≡ false →
-      Edit n now i AtGrants t (tell (with_locks (grant t.state.locks w.client w.life w.ino w.mode) t) w.client w.life
+      EditOf clients n now i AtGrants t (tell (with_locks (grant t.state.locks w.client w.life w.ino w.mode) t) w.client w.life
       (bodies.Granted w.ino (next_grant t.state.locks) w.mode))
   Demands : (t : ServerTurn) (w : Waiter) (r : LockRow) (x : RowDemand) → find (is_wait_on w.ino) t.state.locks.waiters ≡ Some w →
       Has r.client (to_demand t.state.locks (authority.suspects_of t.state.authority) w) → r.ino ≡ w.ino → row_of t.state.locks r.client r.ino ≡ Some r →
       demand_now t.state.config now (is_tick i) (wish w.mode) r.demand ≡ Some x →
-      Edit n now i AtDemands t (tell (with_locks (with_demand r x t.state.locks) t) r.client r.life (bodies.Demand r.ino r.g x.to))
+      EditOf clients n now i AtDemands t (tell (with_locks (with_demand r x t.state.locks) t) r.client r.life (bodies.Demand r.ino r.g x.to))
+
+-- The same in the first two forms, whose clients are the nodes 1 to 16.
+
+-- a client's message comes
+abbrev pub Came : ServerState → Stamp → ServerInput → ServerTurn → Message → Type 0
+Came = CameOf is_client_node
+
+-- the client isn't a suspect
+abbrev pub Heard : ServerState → Stamp → ServerInput → ServerTurn → Message → Type 0
+Heard = HeardOf is_client_node
+
+-- it greets
+abbrev pub Greeted : ServerState → Stamp → ServerInput → ServerTurn → Message → Type 0
+Greeted = GreetedOf is_client_node
+
+-- it asks
+abbrev pub Asked : ServerState → Stamp → ServerInput → ServerTurn → Message → Type 0
+Asked = AskedOf is_client_node
+
+-- its request is the next one
+abbrev pub Served : ServerState → Stamp → ServerInput → ServerTurn → Message → Type 0
+Served = ServedOf is_client_node
+
+-- it reasserts locks
+abbrev pub Reasserted : ServerState → Stamp → ServerInput → ServerTurn → Message → List (ℕ × GrantNo × Mode) → Type 0
+Reasserted = ReassertedOf is_client_node
+
+-- a message is refused
+abbrev pub Refused : ServerState → Stamp → ServerInput → ServerTurn → Message → Body → Type 0
+Refused = RefusedOf is_client_node
+
+-- one change
+abbrev pub Edit : ServerState → Stamp → ServerInput → Phase → ServerTurn → ServerTurn → Type 0
+Edit = EditOf is_client_node
