@@ -15,8 +15,8 @@ mod Passing
 mod Facts
 mod Rules
 mod Stepping
-mod Moves
-mod Sound
+pub mod Moves
+pub mod Sound
 mod Welcomes
 mod Demands
 mod DemandRuns
