@@ -1,7 +1,7 @@
 -- Messages keep their numbers, and the line of a message tells its number.
 use Rattle.st_lemmas.proofs.Words
 use Words.{◌≡◌, ℕ, ◌+◌, List, [], ◌∷◌, ◌++◌, Some, Ok, refl, sym, ap, ◌∙◌, subst, arith, inl, inr, append_assoc, length-append}
-use Words.{length, slice_get, suc, zero, Event, Message}
+use Words.{length, slice_get, suc, zero, Event, Message, Observation}
 use Words.seen
 use Words.Events.{WorldTurn, counted, world_step}
 use Words.World.{World, numbered}
@@ -33,15 +33,23 @@ is_there xs (y ∷ ys) k v (inr h) =
     let z : length xs + 1 + 1 ≡ length (xs ++ y ∷ []) + 1 = ap (λ n. n + 1) (sym (length-append xs (y ∷ []))) in
     ap (λ zs. numbered zs k) (sym (append_assoc xs (y ∷ []) ys)) ∙ is_there (xs ++ y ∷ []) ys k v (subst (λ n. Has (k, v) (under_numbers n ys)) z h)
 
+-- lines that tell the messages by their numbers
+module _ (before after : List Message) (os : List Observation) (g : Grows message_told before os after) where
+  pub keeps_place : (k : ℕ) (m : Message) → numbered before k ≡ Some m → numbered after k ≡ Some m
+  keeps_place k m q = ap (λ zs. numbered zs k) g.is ∙ numbered_front before g.new k m q
+
+  pub tells_place : (k : ℕ) (m : Message) → Has (seen.Sent k m) os → numbered after k ≡ Some m
+  tells_place k m i =
+      ap (λ zs. numbered zs k) g.is
+      ∙ is_there before g.new k m (subst (Has (k, m)) g.lines (has_filter_map message_told os (seen.Sent k m) (k, m) i refl))
+
 module _ (w : World) (e : Event) (sc : WorldTurn) (h : world_step w e ≡ Ok sc) where
   grows : Grows message_told (messages w) sc.seen (messages sc.world)
   grows = subst (λ (x : WorldTurn). Grows message_told (messages w) x.seen (messages x.world)) (sym (step_happens w e sc h).1)
       (tells_event (counted w) e).messages
 
   pub keeps_number : (k : ℕ) (m : Message) → numbered (messages w) k ≡ Some m → numbered (messages sc.world) k ≡ Some m
-  keeps_number k m q = ap (λ zs. numbered zs k) grows.is ∙ numbered_front (messages w) grows.new k m q
+  keeps_number = keeps_place (messages w) (messages sc.world) sc.seen grows
 
   pub tells_number : (k : ℕ) (m : Message) → Has (seen.Sent k m) sc.seen → numbered (messages sc.world) k ≡ Some m
-  tells_number k m i =
-      ap (λ zs. numbered zs k) grows.is
-      ∙ is_there (messages w) grows.new k m (subst (Has (k, m)) grows.lines (has_filter_map message_told sc.seen (seen.Sent k m) (k, m) i refl))
+  tells_number = tells_place (messages w) (messages sc.world) sc.seen grows

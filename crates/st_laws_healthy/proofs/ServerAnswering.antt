@@ -73,11 +73,12 @@ fresh_taken v h y last kept there state life epoch number =
 -- a demand that waits after a step is sent in it, or waited before it and wasn't answered in it
 waits_or_sent : (now : Stamp) (n : ServerState) (known : RowsHaveSessions n) (once : are_once same_row n.locks.rows ≡ true)
     (lives : (r : LockRow) → Has r n.locks.rows → (y : Session) → sessions.session_of n.sessions r.client ≡ Some y → y.life.0 ≡ r.life.0) (i : ServerInput) →
-    WishInput i → are_once same_row (server_step n now i).state.locks.rows ≡ true → (r : LockRow) (at : Stamp) → Has r (server_step n now i).state.locks.rows →
+    are_once same_row (server_step n now i).state.locks.rows ≡ true → (r : LockRow) (at : Stamp) → Has r (server_step n now i).state.locks.rows →
     asked_since r ≡ Some at → may_ack (server_step n now i).state.authority r.client ≡ true →
-    SentNow n now (server_step n now i).out r at ⊎ WaitedBefore now n known once lives i r at
-waits_or_sent now n known once lives serving.Tick wish o r at h e f = keeps_tick now n known once lives o r at h e f
-waits_or_sent now n known once lives (serving.Control m) wish o r at h e f = keeps_message now n known once lives m wish o r at h e f
+    SentNow n now (server_step n now i).out r at ⊎ WaitedBefore sv.is_client_node now n known once lives i r at
+unfolding server_step sv.take_input sv.receive
+waits_or_sent now n known once lives serving.Tick o r at h e f = keeps_tick sv.is_client_node now n known once lives o r at h e f
+waits_or_sent now n known once lives (serving.Control m) o r at h e f = keeps_message sv.is_client_node now n known once lives m o r at h e f
 
 module _ (k : Config) (c : ClientId) (s : ServerId) (gap d : ℕ) (read : World → ℕ) (delay most : ℕ) (few : c.0 ≤ 16) (some : 1 ≤ c.0) (past : List Step)
     (x : Step) (w : World) (ns : List Message) (more : (m : Message) → Has m (messages w) → Has m ns)
@@ -245,9 +246,9 @@ module _ (k : Config) (c : ClientId) (s : ServerId) (gap d : ℕ) (read : World 
     answers2 : (r : LockRow) (at : Stamp) → Has r n2.locks.rows → r.client ≡ c → asked_since r ≡ Some at →
         Answering c s read delay most past2 ns life epoch a.session since r.ino r.g at.0
     answers2 r at h own e =
-        by (waits_or_sent when n known once lives i wish once2 r at h e (subst (λ y. may_ack n2.authority y ≡ true) (sym own) still))
+        by (waits_or_sent when n known once lives i once2 r at h e (subst (λ y. may_ack n2.authority y ≡ true) (sym own) still))
       where
-        by : SentNow n when (server_step n when i).out r at ⊎ WaitedBefore when n known once lives i r at →
+        by : SentNow n when (server_step n when i).out r at ⊎ WaitedBefore sv.is_client_node when n known once lives i r at →
             Answering c s read delay most past2 ns life epoch a.session since r.ino r.g at.0
         by (inl y) =
             let m : Message = record { header = sv.own_header n r.client r.life; body = bd.Demand r.ino r.g y.to } in
@@ -277,8 +278,8 @@ module _ (k : Config) (c : ClientId) (s : ServerId) (gap d : ℕ) (read : World 
             heeded : (p : LockRow) → Has p n.locks.rows → p.client ≡ c → SameLock r p → (m : Message) → i ≡ serving.Control m →
                 IsSeenOn c s life epoch p.ino p.g m → ⊥
             heeded p j mine same m is q =
-                not_both (Heeds n r i)
-                (ap (Heeds n r) is
+                not_both (Heeds sv.is_client_node n r i)
+                (ap (Heeds sv.is_client_node n r) is
                 ∙ ap (λ (v : ClientId). Rattle.st_laws_waits.specs.Causes.heeds n v r.ino r.g m) own
                 ∙ ap (λ v. Rattle.st_laws_waits.specs.Causes.heeds n c v r.g m) (sym same.ino)
                 ∙ ap (λ (v : GrantNo). Rattle.st_laws_waits.specs.Causes.heeds n c p.ino v m) (sym same.g)
