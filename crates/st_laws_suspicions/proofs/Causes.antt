@@ -1,6 +1,6 @@
 -- Suspicions have a cause, over whole runs of the third form in which the server never stops.
 use Rattle.st_lemmas.proofs.Words
-use Words.{◌≡◌, ℕ, Bool, true, false, List, [], ◌∷◌, ◌++◌, map, map-append, option_map, Option, Some, None, refl, sym, ap, ◌∙◌, subst, Config, LockRow, NodeId, ServerId, ServerInput, Stamp}
+use Words.{◌≡◌, ℕ, true, List, [], ◌∷◌, ◌++◌, map, map-append, option_map, Option, Some, None, refl, sym, ap, ◌∙◌, subst, Config, LockRow, NodeId, ServerId}
 use Words.{WorldRefusal}
 use Words.events
 use Words.nodes
@@ -11,13 +11,11 @@ use Words.Server as server
 use Words.Server.{ServerNode}
 use Words.ServerInvariants.{are_once}
 use Words.Truth.{not_both}
-use Words.World.{World, clock_of, fresh_world, node_of, numbered}
-use Rattle.st_laws_third.proofs.Moves.{Moved, elsewhere, moves}
+use Words.World.{clock_of, fresh_world, node_of}
+use Rattle.st_laws_third.proofs.Moves.{elsewhere, moves}
 use Rattle.st_laws_third.proofs.Sound.{Sound, numbered_map, sound_after, sound_first}
-use Rattle.st_laws_waits.specs.Bounds.{RowsHaveSessions}
 use Rattle.st_laws_waits.specs.Waits.{Runs}
-use Rattle.st_laws_waits.proofs.Causes as causes
-use Rattle.st_laws_waits.proofs.Causes.{AllUnanswered, IsKnown, Moves, Steps, Rests, asks2, cause_of, stepped_of}
+use Rattle.st_laws_waits.proofs.Causes.{AllUnanswered, IsKnown, Moves, Steps, Rests, asks2, cause_of}
 use Rattle.st_laws_waits.proofs.Standing.{node_is}
 use Rattle.st_third.specs.declared.event.ThirdEvent.{ThirdEvent}
 use Rattle.st_third.specs.declared.event.ThirdEvent.TheVariants as third
@@ -41,23 +39,25 @@ unfolding worlds.refusal worlds.plain_refusal admissible.refusal
 start_free w e q n is = sym (ap (worlds.refusal w) is) ∙ q
 
 module _ (k : Config) (s : ServerId) where
-  known : (n : server.ServerState) → Holds k s n → IsKnown k s n
+  known : (n : server.ServerState) → Holds C k s n → IsKnown k s n
   known n h =
       record {
         id = h.id;
         config = h.config;
         there = λ r i. found r (h.rows r i);
         once = h.once;
-        lives = λ r i y e. let z = h.rows r i in ap (λ x. x.0) (ap (λ (v : Rattle.st_rules.specs.declared.sessions.Session.Session). v.life) (some_is (sym e ∙ z.is)) ∙ z.of_life);
+        lives = λ r i y e. let z = h.rows r i in ap (λ x. x.0)
+            (ap (λ (v : Rattle.st_rules.specs.declared.sessions.Session.Session). v.life) (some_is (sym e ∙ z.is)) ∙ z.of_life);
       }
     where
-      found : (r : LockRow) → IsServed n.sessions r.client r.life → Rattle.std.specs.Prelude.is_some (Rattle.st_rules.specs.Sessions.session_of n.sessions r.client) ≡ true
+      found : (r : LockRow) → IsServed C n.sessions r.client r.life →
+          Rattle.std.specs.Prelude.is_some (Rattle.st_rules.specs.Sessions.session_of n.sessions r.client) ≡ true
       found r z = ap (λ o. Rattle.std.specs.Prelude.is_some o) z.is
 
   -- what holds after every event
   pub record Stand (past : List ThirdStep) (t : ThirdTraced) : Type 0 where
     pub sound : Sound t.third
-    pub holds : (node : ServerNode) → node_of t.third.world s ≡ Some node → (node.running ≡ true) × Holds k s node.state
+    pub holds : (node : ServerNode) → node_of t.third.world s ≡ Some node → (node.running ≡ true) × Holds C k s node.state
     pub asks : AllUnanswered C k s (map plain_step past) t.third.world
 
   module _ (past : List ThirdStep) (t : ThirdTraced) (e : ThirdEvent) (b : Stand past t) (free : worlds.refusal t.third e ≡ None) where
@@ -70,14 +70,14 @@ module _ (k : Config) (s : ServerId) where
     abbrev x : ThirdStep
     x = steps.third_step t e sc
 
-    it : Outcome s w e sc
+    pub it : Outcome s w e sc
     it = outcome s w e b.sound.form (start_free t.third e free)
 
     module _ (g : Runs s sc.third.world) where
-      moved : Outcome s w e sc → Moves C k s (plain_step x)
+      pub moved : Outcome s w e sc → Moves C k s (plain_step x)
       moved (Takes old i at up arrives next clock says) =
           let h = (b.holds old at).1 in
-          Steps old i at up arrives next clock says (known old.state h) (holds_on k s C old.state (clock_of w.world (nodes.Server s)) i h).once
+          Steps old i at up arrives next clock says (known old.state h) (holds_on C k s old.state (clock_of w.world (nodes.Server s)) i h).once
       moved (Stays same deaf) = Rests same deaf
       moved (Stops new next off) = absurd (not_both g.node.running g.running (sym (ap (λ (n : ServerNode). n.running) (some_is (sym next ∙ g.is))) ∙ off))
       moved (IsOff old at off) = absurd (not_both old.running (b.holds old at).0 off)
@@ -86,19 +86,20 @@ module _ (k : Config) (s : ServerId) where
           no : ◌≡◌ {A = Option ServerNode} None (Some g.node) → ⊥
           no q = cc
 
-      holds2 : Outcome s w e sc → (node : ServerNode) → node_of sc.third.world s ≡ Some node → (node.running ≡ true) × Holds k s node.state
+      holds2 : Outcome s w e sc → (node : ServerNode) → node_of sc.third.world s ≡ Some node → (node.running ≡ true) × Holds C k s node.state
       holds2 (Takes old i at up arrives next clock says) node f =
-          subst (λ (n : ServerNode). (n.running ≡ true) × Holds k s n.state) (some_is (sym next ∙ f))
-          (up, holds_on k s C old.state (clock_of w.world (nodes.Server s)) i (b.holds old at).1)
+          subst (λ (n : ServerNode). (n.running ≡ true) × Holds C k s n.state) (some_is (sym next ∙ f))
+          (up, holds_on C k s old.state (clock_of w.world (nodes.Server s)) i (b.holds old at).1)
       holds2 (Stays same deaf) node f = b.holds node (sym same ∙ f)
-      holds2 (Stops new next off) node f = absurd (not_both g.node.running g.running (sym (ap (λ (n : ServerNode). n.running) (some_is (sym next ∙ g.is))) ∙ off))
+      holds2 (Stops new next off) node f =
+          absurd (not_both g.node.running g.running (sym (ap (λ (n : ServerNode). n.running) (some_is (sym next ∙ g.is))) ∙ off))
       holds2 (IsOff old at off) node f = absurd (not_both old.running (b.holds old at).0 off)
       holds2 (IsAbsent before after) node f = absurd (no (sym after ∙ f))
         where
           no : ◌≡◌ {A = Option ServerNode} None (Some node) → ⊥
           no q = cc
 
-      stand2 : Stand (past ++ x ∷ []) (steps.traced_after e t sc)
+      pub stand2 : Stand (past ++ x ∷ []) (steps.traced_after e t sc)
       stand2 =
           record {
             sound = sound_after t.third sc.third b.sound (elsewhere t.third w sc.third refl refl (moves w e b.sound.form));
@@ -107,12 +108,13 @@ module _ (k : Config) (s : ServerId) where
                 (asks2 C k s (map plain_step past) (plain_step x) b.asks (moved it));
           }
 
-      cause : HaveACause k s past x
+      pub cause : HaveACause k s past x
       cause = cause_of C k s (map plain_step past) (plain_step x) b.asks (moved it)
 
   abbrev Goes_on : List ThirdEvent → Type 0
   Goes_on es =
-      (past : List ThirdStep) (t : ThirdTraced) → Stand past t → Throughout (ServerRuns s) past (steps.steps es t) → Throughout (HaveACause k s) past (steps.steps es t)
+      (past : List ThirdStep) (t : ThirdTraced) → Stand past t → Throughout (ServerRuns s) past (steps.steps es t) →
+      Throughout (HaveACause k s) past (steps.steps es t)
 
   throughout : (es : List ThirdEvent) → Goes_on es
   unfolding Throughout steps.steps steps.steps_on every.world_step every.world_by
@@ -139,7 +141,7 @@ module _ (k : Config) (m : Limits) (clients servers disks blocks : ℕ) (s : Ser
       go None q r = cc r
       go (Some y) q r = sym (some_is r) ∙ ap (limited_node m) (node_is k clients servers disks blocks 3 s y q)
 
-  begun : Holds k s (limited_node m (Rattle.st_rules.specs.World.node_at_start k servers disks blocks s.0)).state
+  begun : Holds C k s (limited_node m (Rattle.st_rules.specs.World.node_at_start k servers disks blocks s.0)).state
   unfolding server.fresh_server are_once
   begun = record { config = refl; id = refl; calm = refl; once = refl; rows = λ r i. absurd i; waits = λ w i. absurd i }
 
@@ -150,12 +152,16 @@ module _ (k : Config) (m : Limits) (clients servers disks blocks : ℕ) (s : Ser
   unfolding server.fresh_server
   no_rows r i = absurd i
 
-  begins : Stand k s [] (steps.third_traced (third_world k m clients servers disks blocks 3))
+  pub no_first_row : (node : ServerNode) → node_of (third_world k m clients servers disks blocks 3).world s ≡ Some node → (r : LockRow) →
+      Has r node.state.locks.rows → ⊥
+  no_first_row node f r i = no_rows r (subst (λ (n : ServerNode). Has r n.state.locks.rows) (first node f) i)
+
+  pub begins : Stand k s [] (steps.third_traced (third_world k m clients servers disks blocks 3))
   begins =
       record {
         sound = sound_first k m clients servers disks blocks;
-        holds = λ node f. subst (λ (n : ServerNode). (n.running ≡ true) × Holds k s n.state) (sym (first node f)) (runs, begun);
-        asks = λ node f up r at i. absurd (no_rows r (subst (λ (n : ServerNode). Has r n.state.locks.rows) (first node f) i));
+        holds = λ node f. subst (λ (n : ServerNode). (n.running ≡ true) × Holds C k s n.state) (sym (first node f)) (runs, begun);
+        asks = λ node f up r at i. absurd (no_first_row node f r i);
       }
 
 pub causes_law : ThirdSuspicionsHaveACause

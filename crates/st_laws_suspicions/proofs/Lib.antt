@@ -1,3 +1,8 @@
 pub mod Served
 pub mod ServerEvents
 pub mod Causes
+pub mod MessageNumbers
+pub mod Clocks
+pub mod Trips
+pub mod Prompt
+pub mod Open

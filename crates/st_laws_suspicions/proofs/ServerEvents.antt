@@ -1,7 +1,7 @@
 -- What an event of the third form does to one server: it takes a step, is as it was, stops, begins anew, or isn't there.
 use Rattle.st_lemmas.proofs.Words
-use Words.{◌≡◌, ◌≢◌, ℕ, zero, suc, ◌+◌, ◌-◌, ◌≤◌, ◌⊎◌, Bool, true, false, not, List, [], ◌∷◌, ◌++◌, ◌==◌, map, length, Option, Some, None, Ok, Err, refl, sym, ap, ◌∙◌, subst, inl, inr, arith}
-use Words.{if◌then◌else◌, unwrap_or, nat_le, eq-eqb, eqb-true, leb-true, ClientId, IssuedCommand, Message, NodeId, Note, Output, Phase, SentMessage, ServerId, ServerInput, Stamp}
+use Words.{◌≡◌, ◌≢◌, ℕ, zero, suc, ◌+◌, ◌-◌, ◌≤◌, ◌⊎◌, Bool, true, false, List, [], ◌∷◌, ◌==◌, map, length, Option, Some, None, Ok, Err, refl, sym, ap, ◌∙◌, subst, inl, inr, arith}
+use Words.{if◌then◌else◌, unwrap_or, nat_le, le-leb, eq-eqb, eqb-true, leb-true, ClientId, IssuedCommand, Message, NodeId, Note, Output, Phase, SentMessage, ServerId, ServerInput, Stamp}
 use Words.events
 use Words.nodes
 use Words.notes
@@ -17,13 +17,13 @@ use Words.Events as ev
 use Words.Events.{WorldTurn, quiet}
 use Words.Keys.{client, server_node}
 use Words.Lists.{Has}
-use Words.Lookups.{if_false, if_true, some_is}
+use Words.Lookups.{if_false, if_true}
 use Words.Numbers.{numbered_below, numbered_other, numbered_own}
 use Words.Server as server
 use Words.Server.{ServerNode, ServerState}
 use Words.Tables.{same_or_not}
 use Words.World as world
-use Words.World.{World, WorldClient, all_servers, clock_of, is_running, issued_of, message_of, node_of, node_runs, numbered, site_of, stamp, with_numbered}
+use Words.World.{World, WorldClient, all_servers, clock_of, issued_of, message_of, node_of, node_runs, numbered, site_of, stamp, with_numbered}
 use Rattle.std.specs.Option.{option_or}
 use Rattle.st_base.specs.Nodes.{SERVER_BASE}
 use Rattle.st_rules.specs.declared.node.StepRefusal.TheVariants.{Crashed}
@@ -41,7 +41,6 @@ use Rattle.st_third.specs.Limits.{is_client_node, is_third, limited_node, most_c
 use Rattle.st_third.specs.Server as hearing
 use Rattle.st_third.specs.State.{ClientBeside, ThirdClientTurn}
 use Rattle.st_third.specs.Steps.{plain_event, plainly_seen}
-use Rattle.st_third.specs.World as worlds
 use Rattle.st_third.specs.World.{ThirdWorld, beside_of, receiver_of}
 use Rattle.st_trace.specs.Server.Steps.{step_of}
 use Rattle.st_laws_refine.proofs.Server.Delivery.{SameParts, all_parts}
@@ -70,7 +69,8 @@ client_one sc c before (outputs.Submit number at what) = go (site_of sc.world c)
 client_one sc c before (outputs.Note n) = client_note sc c before n
 client_one sc c before o = refl
 
-third_one : (sc : ThirdWorldTurn) (c : ClientId) (before : ClientState) (o : ThirdOutput) → (every.client_says sc c before o).third.world.servers ≡ sc.third.world.servers
+third_one : (sc : ThirdWorldTurn) (c : ClientId) (before : ClientState) (o : ThirdOutput) →
+    (every.client_says sc c before o).third.world.servers ≡ sc.third.world.servers
 unfolding every.client_says
 third_one sc c before (says.Plain o) = client_one (quiet sc.third.world) c before o
 third_one sc c before o = refl
@@ -107,7 +107,8 @@ module _ (w : ThirdWorld) (f : is_third w.world.form ≡ true) where
       by_beside None = refl
       by_beside (Some b) = took_servers w c site _
 
-      by_form : (x : Bool) → x ≡ true → (if x then every.third_takes w c input site (beside_of w c) else every.plain_takes w c input site).third.world.servers ≡ w.world.servers
+      by_form : (x : Bool) → x ≡ true → (if x then every.third_takes w c input site (beside_of w c) else every.plain_takes w c input site).third.world.servers ≡
+          w.world.servers
       by_form true q = by_beside (beside_of w c)
       by_form false q = absurd (no q)
         where
@@ -133,7 +134,8 @@ module _ (w : ThirdWorld) (f : is_third w.world.form ≡ true) where
   tells_servers k ok None = refl
   tells_servers k ok (Some c) = go (site_of w.world c.client)
     where
-      by_instance : (site : WorldClient) (b : Bool) → (if b then every.client_takes w c.client (takes.Plain (ev.end_told w.world k ok c)) site else unseen w).third.world.servers ≡ w.world.servers
+      by_instance : (site : WorldClient) (b : Bool) →
+          (if b then every.client_takes w c.client (takes.Plain (ev.end_told w.world k ok c)) site else unseen w).third.world.servers ≡ w.world.servers
       by_instance site true = takes_servers c.client _ site
       by_instance site false = refl
 
@@ -166,27 +168,31 @@ third_step_is n now (Control m) = refl
 step_is : (form : ℕ) → form ≡ 3 → (n : ServerState) (now : Stamp) (i : ServerInput) → hearing.server_step form n now i ≡ step_of C n now i
 step_is form e n now i = ap (λ x. hearing.server_step x n now i) e ∙ third_step_is n now i
 
--- the node of a number
-node_by : (form n : ℕ) → is_third form ≡ true → ((n ≤ 64) × (node_at form n ≡ nodes.Client (client n))) ⊎ (node_at form n ≡ nodes.Server (world.server (n - SERVER_BASE)))
+-- the node of a number, up to 64 or above
+node_is : (form n : ℕ) → is_third form ≡ true →
+    node_at form n ≡ (if nat_le n 64 then nodes.Client (client n) else nodes.Server (world.server (n - SERVER_BASE)))
 unfolding node_at most_clients
+node_is form n f = ap (λ b. if nat_le n (if b then 64 else 16) then nodes.Client (client n) else nodes.Server (world.server (n - SERVER_BASE))) f
+
+pub near_node : (form n : ℕ) → is_third form ≡ true → n ≤ 64 → node_at form n ≡ nodes.Client (client n)
+near_node form n f l = node_is form n f ∙ ap (λ b. if b then nodes.Client (client n) else nodes.Server (world.server (n - SERVER_BASE))) (le-leb n 64 l)
+
+node_by : (form n : ℕ) → is_third form ≡ true → ((n ≤ 64) × (node_at form n ≡ nodes.Client (client n))) ⊎
+    (node_at form n ≡ nodes.Server (world.server (n - SERVER_BASE)))
 node_by form n f = go (nat_le n 64) refl
   where
-    By : Bool → NodeId
-    By b = if b then nodes.Client (client n) else nodes.Server (world.server (n - SERVER_BASE))
-
-    is : node_at form n ≡ By (nat_le n 64)
-    is = ap (λ b. if nat_le n (if b then 64 else 16) then nodes.Client (client n) else nodes.Server (world.server (n - SERVER_BASE))) f
-
-    go : (b : Bool) → nat_le n 64 ≡ b → ((n ≤ 64) × (node_at form n ≡ nodes.Client (client n))) ⊎ (node_at form n ≡ nodes.Server (world.server (n - SERVER_BASE)))
-    go true e = inl (leb-true n 64 e, is ∙ ap By e)
-    go false e = inr (is ∙ ap By e)
+    go : (b : Bool) → nat_le n 64 ≡ b → ((n ≤ 64) × (node_at form n ≡ nodes.Client (client n))) ⊎
+        (node_at form n ≡ nodes.Server (world.server (n - SERVER_BASE)))
+    go true e = inl (leb-true n 64 e, near_node form n f (leb-true n 64 e))
+    go false e = inr (node_is form n f ∙ ap (λ b. if b then nodes.Client (client n) else nodes.Server (world.server (n - SERVER_BASE))) e)
 
 -- What an event does to a server.
 pub data Outcome (s : ServerId) (w : ThirdWorld) (e : ThirdEvent) (sc : ThirdWorldTurn) : Type 0 where
   Takes : (old : ServerNode) (i : ServerInput) → node_of w.world s ≡ Some old → old.running ≡ true → Arrives s w.world (plain_event e) i →
       node_of sc.third.world s ≡ Some (stepped_of C old (clock_of w.world (nodes.Server s)) i) →
       clock_of sc.third.world (nodes.Server s) ≡ clock_of w.world (nodes.Server s) →
-      ((m : Message) → Has (outputs.Send m) (step_of C old.state (clock_of w.world (nodes.Server s)) i).out → (n : ℕ) × Has (seen.Sent n m) (plainly_seen sc.seen)) →
+      ((m : Message) → Has (outputs.Send m) (step_of C old.state (clock_of w.world (nodes.Server s)) i).out →
+      (n : ℕ) × Has (seen.Sent n m) (plainly_seen sc.seen)) →
       Outcome s w e sc
   Stays : node_of sc.third.world s ≡ node_of w.world s → received s w.world (plain_event e) ≡ None → Outcome s w e sc
   Stops : (new : ServerNode) → node_of sc.third.world s ≡ Some new → new.running ≡ false → Outcome s w e sc
@@ -220,9 +226,11 @@ module _ (s : ServerId) (w : ThirdWorld) (f : is_third w.world.form ≡ true) wh
       go false r = IsOff node q r
       go true r =
           Takes node i q r arrives
-          (ap (λ xs. numbered xs s.0) parts.servers ∙ numbered_own w.world.servers s.0 t.node node q ∙ ap (λ (u : server.ServerTurn). Some (record node { state = u.state })) same)
+          (ap (λ xs. numbered xs s.0) parts.servers ∙ numbered_own w.world.servers s.0 t.node node q ∙
+          ap (λ (u : server.ServerTurn). Some (record node { state = u.state })) same)
           (λ j. unwrap_or (numbered (parts.clocks j) (length (parts.clients j) + s.0)) (stamp 0))
-          (λ m h. let z = (server_said s t.out (quiet (ev.with_node s t.node w.world))).told m (subst (λ (u : server.ServerTurn). Has (outputs.Send m) u.out) (sym same) h) in
+          (λ m h. let z = (server_said s t.out (quiet (ev.with_node s t.node w.world))).told m
+          (subst (λ (u : server.ServerTurn). Has (outputs.Send m) u.out) (sym same) h) in
           (z.0, seen_through _ (seen.Sent z.0 m) z.1))
 
   -- another one
@@ -248,7 +256,8 @@ module _ (s : ServerId) (w : ThirdWorld) (f : is_third w.world.form ≡ true) wh
     where
       go : (s.0 ≡ r.0) ⊎ (s.0 ≢ r.0) → Outcome s w (third.Plain (events.Tick (nodes.Server r))) (every.at_server w r Tick (node_of w.world r))
       go (inl e) =
-          subst (λ (x : ServerId). Outcome s w (third.Plain (events.Tick (nodes.Server x))) (every.at_server w x Tick (node_of w.world x))) (ap (λ n. world.server n) e)
+          subst (λ (x : ServerId). Outcome s w (third.Plain (events.Tick (nodes.Server x))) (every.at_server w x Tick (node_of w.world x)))
+          (ap (λ n. world.server n) e)
           (own_step (third.Plain (events.Tick (nodes.Server s))) Tick refl (node_of w.world s) refl)
       go (inr ne) = Stays (other_step r Tick ne (node_of w.world r) refl) refl
 
@@ -263,7 +272,8 @@ module _ (s : ServerId) (w : ThirdWorld) (f : is_third w.world.form ≡ true) wh
     delivered (Some m) q = by (node_by w.world.form m.message.header.to f)
       where
         unheard : (m.message.header.to ≡ server_node s → ⊥) → received s w.world (events.Deliver k) ≡ None
-        unheard wrong = ap (received_in s) q ∙ if_false (m.message.header.to == server_node s) (Some m.message) None (differs (m.message.header.to == server_node s) refl)
+        unheard wrong = ap (received_in s) q ∙ if_false (m.message.header.to == server_node s) (Some m.message) None
+            (differs (m.message.header.to == server_node s) refl)
           where
             differs : (b : Bool) → (m.message.header.to == server_node s) ≡ b → (m.message.header.to == server_node s) ≡ false
             differs true e = absurd (wrong (eqb-true m.message.header.to (server_node s) e))
@@ -291,7 +301,8 @@ module _ (s : ServerId) (w : ThirdWorld) (f : is_third w.world.form ≡ true) wh
                 subst (λ (x : ServerId). to (nodes.Server x)) (ap (λ n. world.server n) (let y : s.0 ≡ m.message.header.to - 32768 = omega (arith, e) in y))
                 (own_step E (Control m.message) (heard e) (node_of w.world s) refl)
             at (inr ne) =
-                Stays (other_step r (Control m.message) (λ e. ne (let y : m.message.header.to ≡ 32768 + s.0 = omega (arith, e, low) in y)) (node_of w.world r) refl)
+                Stays (other_step r (Control m.message) (λ e. ne (let y : m.message.header.to ≡ 32768 + s.0 = omega (arith, e, low) in y)) (node_of w.world r)
+                refl)
                 (unheard ne)
 
   -- A server that crashes or starts.
@@ -312,13 +323,15 @@ module _ (s : ServerId) (w : ThirdWorld) (f : is_third w.world.form ≡ true) wh
       numbered_other (with_numbered r.0 new w.world.servers) r.0 s.0 (limited_node w.limits new) low ne ∙ numbered_other w.world.servers r.0 s.0 new low ne
 
   -- nothing is there
-  nobody : (r : ServerId) → node_of w.world r ≡ None → (every.node_begins (nodes.Server r) (every.as_plain w (quiet w.world))).third.world.servers ≡ w.world.servers
+  nobody : (r : ServerId) → node_of w.world r ≡ None →
+      (every.node_begins (nodes.Server r) (every.as_plain w (quiet w.world))).third.world.servers ≡ w.world.servers
   unfolding every.node_begins every.server_begins
   nobody r q = ap (λ o. (every.server_begins (every.as_plain w (quiet w.world)) r o).third.world.servers) q
 
   crashed : (n : NodeId) → Outcome s w (third.Plain (events.Crash n)) (every.node_begins n (every.as_plain w (ev.happens w.world (events.Crash n))))
   unfolding ev.happens ev.crashes ev.crashes_client ev.crashes_server ev.marks
-  crashed (nodes.Client c) = rests (third.Plain (events.Crash (nodes.Client c))) _ (begins_client w c (ev.crashes_client w.world c (site_of w.world c)) (go (site_of w.world c))) refl
+  crashed (nodes.Client c) = rests (third.Plain (events.Crash (nodes.Client c))) _
+      (begins_client w c (ev.crashes_client w.world c (site_of w.world c)) (go (site_of w.world c))) refl
     where
       go : (o : Option WorldClient) → (ev.crashes_client w.world c o).world.servers ≡ w.world.servers
       go None = refl
@@ -326,7 +339,8 @@ module _ (s : ServerId) (w : ThirdWorld) (f : is_third w.world.form ≡ true) wh
   crashed (nodes.Server r) = go (node_of w.world r) refl
     where
       go : (o : Option ServerNode) → node_of w.world r ≡ o →
-          Outcome s w (third.Plain (events.Crash (nodes.Server r))) (every.node_begins (nodes.Server r) (every.as_plain w (quiet (ev.crashes_server w.world r o))))
+          Outcome s w (third.Plain (events.Crash (nodes.Server r)))
+          (every.node_begins (nodes.Server r) (every.as_plain w (quiet (ev.crashes_server w.world r o))))
       go None q = rests (third.Plain (events.Crash (nodes.Server r))) _ (nobody r q) refl
       go (Some old) q = by (same_or_not s.0 r.0)
         where
@@ -334,7 +348,8 @@ module _ (s : ServerId) (w : ThirdWorld) (f : is_third w.world.form ≡ true) wh
           new = server.crash_node old
 
           by : (s.0 ≡ r.0) ⊎ (s.0 ≢ r.0) →
-              Outcome s w (third.Plain (events.Crash (nodes.Server r))) (every.node_begins (nodes.Server r) (every.as_plain w (quiet (ev.with_node r new w.world))))
+              Outcome s w (third.Plain (events.Crash (nodes.Server r)))
+              (every.node_begins (nodes.Server r) (every.as_plain w (quiet (ev.with_node r new w.world))))
           by (inl e) =
               Stops (limited_node w.limits new)
               (begun r old new q
@@ -345,7 +360,8 @@ module _ (s : ServerId) (w : ThirdWorld) (f : is_third w.world.form ≡ true) wh
   started : (n : NodeId) → admissible.refusal w.world (events.Start n) ≡ None →
       Outcome s w (third.Plain (events.Start n)) (every.node_begins n (every.as_plain w (ev.happens w.world (events.Start n))))
   unfolding ev.happens ev.starts ev.starts_client ev.starts_server admissible.refusal admissible.stands
-  started (nodes.Client c) free = rests (third.Plain (events.Start (nodes.Client c))) _ (begins_client w c (quiet (ev.starts_client w.world c (site_of w.world c))) (go (site_of w.world c))) refl
+  started (nodes.Client c) free = rests (third.Plain (events.Start (nodes.Client c))) _
+      (begins_client w c (quiet (ev.starts_client w.world c (site_of w.world c))) (go (site_of w.world c))) refl
     where
       go : (o : Option WorldClient) → (ev.starts_client w.world c o).servers ≡ w.world.servers
       go None = refl
@@ -353,9 +369,13 @@ module _ (s : ServerId) (w : ThirdWorld) (f : is_third w.world.form ≡ true) wh
   started (nodes.Server r) free = go (node_of w.world r) refl
     where
       off : (old : ServerNode) → node_of w.world r ≡ Some old → old.running ≡ false
-      off old q = runs old.running (sym (ap (λ o. option_or (admissible.no_node w.world (nodes.Server r)) (admissible.stands (node_runs o) (refusals.Running (nodes.Server r)))) q) ∙ free)
+      off old q =
+          runs old.running
+          (sym (ap (λ o. option_or (admissible.no_node w.world (nodes.Server r)) (admissible.stands (node_runs o) (refusals.Running (nodes.Server r)))) q) ∙
+          free)
         where
-          runs : (b : Bool) → option_or (admissible.no_node w.world (nodes.Server r)) (admissible.stands b (refusals.Running (nodes.Server r))) ≡ None → b ≡ false
+          runs : (b : Bool) → option_or (admissible.no_node w.world (nodes.Server r)) (admissible.stands b (refusals.Running (nodes.Server r))) ≡ None →
+              b ≡ false
           runs false e = refl
           runs true e = absurd (no (admissible.no_node w.world (nodes.Server r)) e)
             where
@@ -364,7 +384,8 @@ module _ (s : ServerId) (w : ThirdWorld) (f : is_third w.world.form ≡ true) wh
               no (Some x) e = cc
 
       go : (o : Option ServerNode) → node_of w.world r ≡ o →
-          Outcome s w (third.Plain (events.Start (nodes.Server r))) (every.node_begins (nodes.Server r) (every.as_plain w (quiet (ev.starts_server w.world r o))))
+          Outcome s w (third.Plain (events.Start (nodes.Server r)))
+          (every.node_begins (nodes.Server r) (every.as_plain w (quiet (ev.starts_server w.world r o))))
       go None q = rests (third.Plain (events.Start (nodes.Server r))) _ (nobody r q) refl
       go (Some old) q = by (same_or_not s.0 r.0)
         where
@@ -372,7 +393,8 @@ module _ (s : ServerId) (w : ThirdWorld) (f : is_third w.world.form ≡ true) wh
           new = server.start_node old (clock_of w.world (nodes.Server r))
 
           by : (s.0 ≡ r.0) ⊎ (s.0 ≢ r.0) →
-              Outcome s w (third.Plain (events.Start (nodes.Server r))) (every.node_begins (nodes.Server r) (every.as_plain w (quiet (ev.with_node r new w.world))))
+              Outcome s w (third.Plain (events.Start (nodes.Server r)))
+              (every.node_begins (nodes.Server r) (every.as_plain w (quiet (ev.with_node r new w.world))))
           by (inl e) = IsOff old (ap (numbered w.world.servers) e ∙ q) (off old q)
           by (inr ne) = Stays (begun r old new q ∙ others r old new q ne) refl
 
@@ -409,7 +431,8 @@ outcome_of s w f low (third.Plain (events.Effect k)) free = rests s w f (third.P
 outcome_of s w f low (third.Plain (events.Report k ok)) free =
     rests s w f (third.Plain (events.Report k ok)) _ (tells_servers (every.with_report k ok w) f k ok (issued_of w.world k)) refl
 outcome_of s w f low (third.Plain (events.Crash n)) free = begun_by s w (third.Plain (events.Crash n)) n _ (is_third w.world.form) f (crashed s w f n)
-outcome_of s w f low (third.Plain (events.Start n)) free = begun_by s w (third.Plain (events.Start n)) n _ (is_third w.world.form) f (started s w f n (free n refl))
+outcome_of s w f low (third.Plain (events.Start n)) free =
+    begun_by s w (third.Plain (events.Start n)) n _ (is_third w.world.form) f (started s w f n (free n refl))
 
 -- What an event does to a server.
 pub outcome : (s : ServerId) (w : ThirdWorld) (e : ThirdEvent) → is_third w.world.form ≡ true → StartsOnce w e → Outcome s w e (every.happens w e)

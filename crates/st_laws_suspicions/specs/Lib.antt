@@ -1,1 +1,3 @@
 pub mod Suspicions
+pub mod Prompt
+pub mod Open

@@ -2,6 +2,8 @@
 //! client.
 #![tactic(auto)]
 
+ghost use Rattle.st_laws_suspicions.specs.Open.{OpenClientsAreHeard};
+ghost use Rattle.st_laws_suspicions.specs.Prompt.{PromptClientsAreHeard};
 ghost use Rattle.st_laws_suspicions.specs.Suspicions.{ThirdSuspicionsHaveACause};
 
 /// In every run of the third form in which a server never stops, it suspects one of its up to 64
@@ -10,4 +12,20 @@ ghost use Rattle.st_laws_suspicions.specs.Suspicions.{ThirdSuspicionsHaveACause}
 /// answer since.
 pub fn third_suspicions_have_a_cause()
     ensures { ThirdSuspicionsHaveACause }
+{}
+
+/// Takes the runs of the third form in which, after every event, a server runs, and messages between
+/// it and a client came in time. A demand that the client gets while the server waits for the
+/// answer must be answered in the same step. If two trips take less than the demand time, the
+/// server suspects the client only for a greeting in a later life while it has rows. It doesn't
+/// matter how many locks are demanded at once, nor how many releases wait.
+pub fn prompt_clients_are_heard()
+    ensures { PromptClientsAreHeard }
+{}
+
+/// The same, in place of the answers, if each demand that comes to the client while the server
+/// waits for the answer finds it open: it reaches a session of its epoch, whose lease isn't over,
+/// and no lock of the file has a later grant. Then the client answers it at once.
+pub fn open_clients_are_heard()
+    ensures { OpenClientsAreHeard }
 {}

@@ -19,7 +19,7 @@ pub mod Moves
 pub mod Sound
 mod Welcomes
 mod Demands
-mod DemandRuns
+pub mod DemandRuns
 mod ServerWords
 mod ClientWords
 mod Mail
