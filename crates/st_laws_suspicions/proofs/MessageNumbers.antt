@@ -1,9 +1,8 @@
 -- In the third form, too, messages keep their numbers, and the line of a message tells its number. And a delivery leaves the clocks.
 use Rattle.st_lemmas.proofs.Words
-use Words.{◌≡◌, ℕ, zero, suc, ◌+◌, append-nil, Bool, true, false, List, [], ◌∷◌, ◌++◌, filter_map, map, Option, Some, None, Ok, Err, refl, sym, ap, ◌∙◌, subst, if◌then◌else◌}
-use Words.{ClientId, Fate, IssuedCommand, LogEntry, Message, NodeId, Note, Observation, Output, Phase, SentMessage, ServerId, ServerInput, Stamp}
+use Words.{◌≡◌, ℕ, ◌+◌, append-nil, Bool, true, false, List, [], ◌∷◌, ◌++◌, filter_map, map, Option, Some, None, Ok, Err, refl, sym, ap, ◌∙◌, subst, if◌then◌else◌}
+use Words.{ClientId, IssuedCommand, Message, NodeId, Note, Observation, Output, Phase, SentMessage, ServerId, ServerInput, Stamp}
 use Words.events
-use Words.fates
 use Words.nodes
 use Words.notes
 use Words.outputs
@@ -21,7 +20,8 @@ use Rattle.std.proofs.lemmas.List.Elements.{filter_map-append}
 use Rattle.st_promises.specs.Counts.{message_told, under_numbers}
 use Rattle.st_rules.specs.declared.node.StepRefusal.TheVariants.{Crashed}
 use Rattle.st_laws_leases.specs.Dates.Dates.{message_in, messages}
-use Rattle.st_laws_lines.proofs.Growing.{Grows, grows_none, grows_then, map_set}
+use Rattle.st_laws_lines.proofs.Counting.{tells_event}
+use Rattle.st_laws_lines.proofs.Growing.{Grows, grows_none, grows_then}
 use Rattle.st_third.specs.declared.event.ThirdEvent.{ThirdEvent}
 use Rattle.st_third.specs.declared.event.ThirdEvent.TheVariants as third
 use Rattle.st_third.specs.declared.event.ThirdInput.{ThirdInput}
@@ -253,24 +253,6 @@ module _ (w : ThirdWorld) (f : is_third w.world.form ≡ true) where
       go (nodes.Client c) = at_client c _ (site_of w.world c)
       go (nodes.Server s) = at_server s _ (node_of w.world s)
 
-fates_none : (n : ℕ) (es fs : List LogEntry) → filter_map message_told (ev.fates_from n es fs) ≡ []
-unfolding ev.fates_from
-fates_none n [] fs = refl
-fates_none n (e ∷ es) [] = refl
-fates_none n (e ∷ es) (f ∷ fs) = go e.fate f.fate (fates_none (n + 1) es fs)
-  where
-    go : (a b : Fate) → filter_map message_told (ev.fates_from (n + 1) es fs) ≡ [] →
-        filter_map message_told (ev.fate_seen n a b ++ ev.fates_from (n + 1) es fs) ≡ []
-    go fates.Pending fates.Pending h = h
-    go fates.Pending fates.Hard h = h
-    go fates.Pending (fates.Gone c) h = h
-    go fates.Hard b h = h
-    go (fates.Gone c) b h = h
-
-marked : (w v : World) (es : List LogEntry) → v.net ≡ w.net → Told w (ev.marks v es)
-unfolding ev.marks
-marked w v es q = none w (ev.with_log es v) _ (fates_none 1 v.log es) q
-
 -- a node that begins leaves what was sent and seen
 begins_node : (w : ThirdWorld) (n : NodeId) (sc : ThirdWorldTurn) → ThirdTold w sc → ThirdTold w (every.node_begins n sc)
 unfolding every.node_begins every.client_begins every.server_begins
@@ -293,58 +275,18 @@ begins w n sc h = go (is_third w.world.form)
     go true = begins_node w n sc h
     go false = h
 
-crashed : (w : World) (n : NodeId) → Told w (ev.crashes w n)
-unfolding ev.crashes ev.crashes_client ev.crashes_server
-crashed w (nodes.Client c) = go (site_of w c)
-  where
-    go : (o : Option WorldClient) → Told w (ev.crashes_client w c o)
-    go None = none w w [] refl refl
-    go (Some site) = marked w (ev.with_site c (ev.stopped_site site) (ev.with_crashed_lives site w)) (ev.log_crashed w c) refl
-crashed w (nodes.Server s) = go (node_of w s)
-  where
-    go : (o : Option ServerNode) → Told w (quiet (ev.crashes_server w s o))
-    go None = none w w [] refl refl
-    go (Some node) = none w (ev.with_node s (server.crash_node node) w) [] refl refl
-
-started : (w : World) (n : NodeId) → Told w (quiet (ev.starts w n))
-unfolding ev.starts ev.starts_client ev.starts_server
-started w (nodes.Client c) = go (site_of w c)
-  where
-    go : (o : Option WorldClient) → Told w (quiet (ev.starts_client w c o))
-    go None = none w w [] refl refl
-    go (Some site) = none w (ev.with_site c (ev.started_site site) w) [] refl refl
-started w (nodes.Server s) = go (node_of w s)
-  where
-    go : (o : Option ServerNode) → Told w (quiet (ev.starts_server w s o))
-    go None = none w w [] refl refl
-    go (Some node) = none w (ev.with_node s (server.start_node node (clock_of w (nodes.Server s))) w) [] refl refl
-
-lost : (w : World) (k : ℕ) (o : Option SentMessage) → message_of w k ≡ o → Told w (quiet (ev.loses_message w k o))
-unfolding ev.loses_message under_numbers
-lost w k None e = none w w [] refl refl
-lost w k (Some m) e = subst (λ ms. Grows message_told (messages w) [] ms) (sym (same k e)) (grows_none message_told (messages w) [] refl)
-  where
-    same : (k : ℕ) → message_of w k ≡ Some m → messages (ev.loses_message w k (Some m)) ≡ messages w
-    same zero q = cc
-    same (suc n) q = map_set message_in w.net.messages n (record m { lost = true }) m q refl
-
 -- The lines of an event tell the messages.
 pub third_tells : (w : ThirdWorld) (e : ThirdEvent) → is_third w.world.form ≡ true → ThirdTold w (every.happens w e)
-unfolding every.happens every.plain_happens every.reports_of ev.happens ev.advances ev.effects
+unfolding every.happens every.plain_happens every.reports_of
 third_tells w (third.Leave c s) f = asks w f c _ (site_of w.world c)
 third_tells w (third.Plain (events.Tick n)) f = ticks w f n
 third_tells w (third.Plain (events.App c ask)) f = asks w f c _ (site_of w.world c)
 third_tells w (third.Plain (events.Deliver k)) f = delivers w f (message_of w.world k)
-third_tells w (third.Plain (events.Lose k)) f = as_plain w f (quiet (ev.loses_message w.world k (message_of w.world k)))
-    (lost w.world k (message_of w.world k) refl)
-third_tells w (third.Plain (events.Cut from to)) f = as_plain w f (quiet (ev.with_cut from to w.world)) (grows_none message_told (messages w.world) [] refl)
-third_tells w (third.Plain (events.Heal from to)) f = as_plain w f (quiet (ev.without_cut from to w.world)) (grows_none message_told (messages w.world) [] refl)
-third_tells w (third.Plain (events.Advance steps)) f =
-    as_plain w f (ev.marks (ev.with_clocks steps w.world) (ev.log_ended_all w.world.commands (ev.lives_reached w.world steps) w.world.log))
-    (marked w.world (ev.with_clocks steps w.world) _ refl)
-third_tells w (third.Plain (events.Effect k)) f = as_plain w f (ev.effects w.world k)
-    (marked w.world (ev.with_disks (ev.disks_after w.world.disks (Rattle.st_rules.specs.Disks.effect w.world.disks k)) w.world) _ refl)
 third_tells w (third.Plain (events.Report k ok)) f = tells (every.with_report k ok w) f k ok (issued_of w.world k)
-third_tells w (third.Plain (events.Crash n)) f = begins w n (every.as_plain w (ev.crashes w.world n)) (as_plain w f (ev.crashes w.world n) (crashed w.world n))
-third_tells w (third.Plain (events.Start n)) f = begins w n (every.as_plain w (quiet (ev.starts w.world n)))
-    (as_plain w f (quiet (ev.starts w.world n)) (started w.world n))
+third_tells w (third.Plain (events.Crash n)) f =
+    begins w n (every.as_plain w (ev.happens w.world (events.Crash n)))
+    (as_plain w f (ev.happens w.world (events.Crash n)) (tells_event w.world (events.Crash n)).messages)
+third_tells w (third.Plain (events.Start n)) f =
+    begins w n (every.as_plain w (ev.happens w.world (events.Start n)))
+    (as_plain w f (ev.happens w.world (events.Start n)) (tells_event w.world (events.Start n)).messages)
+third_tells w (third.Plain e) f = as_plain w f (ev.happens w.world e) (tells_event w.world e).messages

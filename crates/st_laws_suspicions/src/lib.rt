@@ -14,9 +14,9 @@ pub fn third_suspicions_have_a_cause()
     ensures { ThirdSuspicionsHaveACause }
 {}
 
-/// Takes the runs of the third form in which, after every event, a server runs, and messages between
-/// it and a client came in time. A demand that the client gets while the server waits for the
-/// answer must be answered in the same step. If two trips take less than the demand time, the
+/// Takes the runs of the third form in which, after every event, a server runs, and messages
+/// between it and a client came in time. A demand that the client gets while the server waits for
+/// the answer must be answered in the same step. If two trips take less than the demand time, the
 /// server suspects the client only for a greeting in a later life while it has rows. It doesn't
 /// matter how many locks are demanded at once, nor how many releases wait.
 pub fn prompt_clients_are_heard()

@@ -303,10 +303,6 @@ Came = CameOf is_client_node
 abbrev pub Heard : ServerState → Stamp → ServerInput → ServerTurn → Message → Type 0
 Heard = HeardOf is_client_node
 
--- it greets
-abbrev pub Greeted : ServerState → Stamp → ServerInput → ServerTurn → Message → Type 0
-Greeted = GreetedOf is_client_node
-
 -- it asks
 abbrev pub Asked : ServerState → Stamp → ServerInput → ServerTurn → Message → Type 0
 Asked = AskedOf is_client_node
