@@ -35,7 +35,7 @@ use Rattle.st_third.specs.Events as every
 use Rattle.st_third.specs.Events.{ThirdWorldTurn, third_counted, unseen}
 use Rattle.st_third.specs.Limits.{is_third, is_within, limited_association, limited_node, limited_site, most_clients, node_at, with_limits}
 use Rattle.st_third.specs.Promises as promises
-use Rattle.st_third.specs.Promises.{DemandsAreSeen, Throughout, session_at}
+use Rattle.st_third.specs.Promises.{DemandsAreSeen, ThirdPromise, Throughout, session_at}
 use Rattle.st_third.specs.State.{ClientBeside, ThirdClientTurn}
 use Rattle.st_third.specs.Steps as steps
 use Rattle.st_third.specs.Steps.{ThirdStep, ThirdTraced}
@@ -52,11 +52,12 @@ use Rattle.st_laws_third.proofs.Sound.{Sound, apart, numbered_map, sound_after, 
 use Rattle.st_laws_third.proofs.Stepping.{clients_step_on}
 
 -- What holds of the clients of a world: none asks a demand; each has its number, up to 64; and servers are numbered from 1.
-record People (w : ThirdWorld) : Type 0 where
-  asks : (n : ℕ) (site : WorldClient) → numbered w.world.clients n ≡ Some site → (a : Association) → Has a site.node.state.associations → SessionFine a.session
-  ids : (n : ℕ) (site : WorldClient) → numbered w.world.clients n ≡ Some site → site.node.state.id.0 ≡ n
-  servers : (n : ℕ) (site : WorldClient) → numbered w.world.clients n ≡ Some site → (a : Association) → Has a site.node.state.associations → 1 ≤ a.server.0
-  few : (n : ℕ) (site : WorldClient) → numbered w.world.clients n ≡ Some site → n ≤ 64
+pub record People (w : ThirdWorld) : Type 0 where
+  pub asks : (n : ℕ) (site : WorldClient) → numbered w.world.clients n ≡ Some site → (a : Association) → Has a site.node.state.associations →
+      SessionFine a.session
+  pub ids : (n : ℕ) (site : WorldClient) → numbered w.world.clients n ≡ Some site → site.node.state.id.0 ≡ n
+  pub servers : (n : ℕ) (site : WorldClient) → numbered w.world.clients n ≡ Some site → (a : Association) → Has a site.node.state.associations → 1 ≤ a.server.0
+  pub few : (n : ℕ) (site : WorldClient) → numbered w.world.clients n ≡ Some site → n ≤ 64
 
 -- of one client
 record Person (n : ℕ) (site : WorldClient) : Type 0 where
@@ -168,10 +169,10 @@ numbers_get a zero n i e = cc e
 numbers_get a (suc count) zero i e = let z = some_is e in omega (arith, z)
 numbers_get a (suc count) (suc n) i e = let z = numbers_get (a + 1) count n i e in omega (arith, z)
 
-within_most : (low high n : ℕ) → is_within low high n ≡ true → n ≤ high
+pub within_most : (low high n : ℕ) → is_within low high n ≡ true → n ≤ high
 within_most low high n e = leb-true n high (and_true (nat_le low n) (nat_le n high) e).1
 
-people_first : (k : Config) (m : Limits) (clients servers disks blocks : ℕ) → clients ≤ 64 → People (third_world k m clients servers disks blocks 3)
+pub people_first : (k : Config) (m : Limits) (clients servers disks blocks : ℕ) → clients ≤ 64 → People (third_world k m clients servers disks blocks 3)
 unfolding third_world fresh_world with_limits plain.fresh_client
 people_first k m clients servers disks blocks most =
     record {
@@ -422,29 +423,35 @@ step_sees past t (third.Plain (events.Crash n)) so ma p q mv = refl
 step_sees past t (third.Plain (events.Start n)) so ma p q mv = refl
 step_sees past t (third.Leave c s) so ma p q mv = refl
 
--- the promise over these events, from wherever they begin
-abbrev Goes_on : List ThirdEvent → Type 0
-Goes_on es = (past : List ThirdStep) (t : ThirdTraced) → Sound t.third → Mailed t.third → People t.third → Throughout DemandsAreSeen past (steps.steps es t)
+-- Over a run: a promise holds throughout, if it is kept at each step from a world in which all this holds, and what else each event keeps.
+module _ (more : ThirdWorld → Type 0) (after : (w v : ThirdWorld) → Sound w → more w → Moved w v → more v) (promise : ThirdPromise)
+    (one : (past : List ThirdStep) (t : ThirdTraced) (e : ThirdEvent) → Sound t.third → Mailed t.third → People t.third → more t.third →
+    worlds.refusal t.third e ≡ None → Moved t.third (every.happens (third_counted t.third) e).third →
+    promise past (steps.third_step t e (every.happens (third_counted t.third) e))) where
+  -- over these events, from wherever they begin
+  abbrev Goes_on : List ThirdEvent → Type 0
+  Goes_on es =
+      (past : List ThirdStep) (t : ThirdTraced) → Sound t.third → Mailed t.third → People t.third → more t.third → Throughout promise past (steps.steps es t)
 
-sees_throughout : (es : List ThirdEvent) → Goes_on es
-unfolding Throughout steps.steps steps.steps_on every.world_step every.world_by
-sees_throughout [] past t so ma p = tt
-sees_throughout (e ∷ es) past t so ma p = go (sees_throughout es) (worlds.refusal t.third e) refl
-  where
-    go : Goes_on es → (r : Option WorldRefusal) → worlds.refusal t.third e ≡ r →
-        Throughout DemandsAreSeen past (steps.steps_on (steps.steps es) t e (every.world_by t.third e r))
-    go rest (Some r) q = tt
-    go rest None q =
-        let w : ThirdWorld = third_counted t.third in
-        let sc : ThirdWorldTurn = every.happens w e in
-        let same : Sound w = record { fits = record { sites = so.fits.sites; there = so.fits.there; pairs = so.fits.pairs }; form = so.form } in
-        let mv : Moved t.third sc.third = elsewhere t.third w sc.third refl refl (moves w e so.form) in (
-          step_sees past t e so ma p q mv,
-          rest _ (steps.traced_after e t sc) (sound_after t.third sc.third so mv) (mails w e same (record { mail = ma.mail; kept = ma.kept }) p.asks)
-              (people_after t.third sc.third so p mv),
-        )
+  pub mail_throughout : (es : List ThirdEvent) → Goes_on es
+  unfolding Throughout steps.steps steps.steps_on every.world_step every.world_by
+  mail_throughout [] past t so ma p x = tt
+  mail_throughout (e ∷ es) past t so ma p x = go (mail_throughout es) (worlds.refusal t.third e) refl
+    where
+      go : Goes_on es → (r : Option WorldRefusal) → worlds.refusal t.third e ≡ r →
+          Throughout promise past (steps.steps_on (steps.steps es) t e (every.world_by t.third e r))
+      go rest (Some r) q = tt
+      go rest None q =
+          let w : ThirdWorld = third_counted t.third in
+          let sc : ThirdWorldTurn = every.happens w e in
+          let same : Sound w = record { fits = record { sites = so.fits.sites; there = so.fits.there; pairs = so.fits.pairs }; form = so.form } in
+          let mv : Moved t.third sc.third = elsewhere t.third w sc.third refl refl (moves w e so.form) in (
+            one past t e so ma p x q mv,
+            rest _ (steps.traced_after e t sc) (sound_after t.third sc.third so mv) (mails w e same (record { mail = ma.mail; kept = ma.kept }) p.asks)
+                (people_after t.third sc.third so p mv) (after t.third sc.third so x mv),
+          )
 
-mailed_first : (k : Config) (m : Limits) (clients servers disks blocks : ℕ) → Mailed (third_world k m clients servers disks blocks 3)
+pub mailed_first : (k : Config) (m : Limits) (clients servers disks blocks : ℕ) → Mailed (third_world k m clients servers disks blocks 3)
 unfolding third_world fresh_world with_limits server_rules.fresh_server
 mailed_first k m clients servers disks blocks = record { mail = λ x h. absurd h; kept = kept }
   where
@@ -458,5 +465,6 @@ mailed_first k m clients servers disks blocks = record { mail = λ x h. absurd h
 pub every_demand_is_seen : EveryDemandIsSeen
 unfolding most_clients
 every_demand_is_seen k m clients servers disks blocks es h =
-    sees_throughout es [] (steps.third_traced (third_world k m clients servers disks blocks 3)) (sound_first k m clients servers disks blocks)
-    (mailed_first k m clients servers disks blocks) (people_first k m clients servers disks blocks (within_most 1 64 clients h.some_clients))
+    mail_throughout (λ w. Unit {0}) (λ w v so x mv. tt) DemandsAreSeen (λ past t e so ma p x q mv. step_sees past t e so ma p q mv) es []
+    (steps.third_traced (third_world k m clients servers disks blocks 3)) (sound_first k m clients servers disks blocks)
+    (mailed_first k m clients servers disks blocks) (people_first k m clients servers disks blocks (within_most 1 64 clients h.some_clients)) tt

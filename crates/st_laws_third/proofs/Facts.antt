@@ -100,21 +100,21 @@ next_both now t u v a b =
 
 -- A change of the first two forms.
 
-continues_dates : (now : Stamp) (t u : Turn) (c : client.Change now t u) → Continues now t u c → Dates t.config now t.here.session u.here.session
+continues_dates : (run : ℕ) (now : Stamp) (t u : Turn) (c : client.Change now t u) → Continues run now t u c → Dates t.config now t.here.session u.here.session
 unfolding passes.submit_read passes.submit_write passes.submit_command
-continues_dates now t _ (client.Says _ o p) n = dates_same t.config now t.here.session
-continues_dates now t _ (client.Operates _ os) n = dates_same t.config now t.here.session
-continues_dates now t _ (client.Answers _ os ops a) n = dates_same t.config now t.here.session
-continues_dates now t _ (client.Greets _ g) n = dates_same t.config now t.here.session
-continues_dates now t _ (client.TellsLost _ lost) n = dates_same t.config now t.here.session
-continues_dates now t _ (client.Begins _ s a b c) n = absurd n
-continues_dates now t _ (client.Follows _ s u e g) n = subst (λ z. Dates t.config now z (Some u)) (sym e) (inl g.date)
-continues_dates now t _ (client.Learns _ e u h) n = dates_same t.config now t.here.session
-continues_dates now t _ (client.Forgets _ ino p i) n = dates_same t.config now t.here.session
-continues_dates now t _ (client.Caches _ clean) n = dates_same t.config now t.here.session
-continues_dates now t _ (client.Writes _ s f p bytes x sv own m h i) n = dates_same t.config now t.here.session
-continues_dates now t _ (client.Reads _ ino p m i clean) n = dates_same t.config now t.here.session
-continues_dates now t _ (client.Submits _ s ino p d m e i k w) n = dates_same t.config now t.here.session
+continues_dates run now t _ (client.Says _ o p) n = dates_same t.config now t.here.session
+continues_dates run now t _ (client.Operates _ os) n = dates_same t.config now t.here.session
+continues_dates run now t _ (client.Answers _ os ops a) n = dates_same t.config now t.here.session
+continues_dates run now t _ (client.Greets _ g) n = dates_same t.config now t.here.session
+continues_dates run now t _ (client.TellsLost _ lost) n = dates_same t.config now t.here.session
+continues_dates run now t _ (client.Begins _ s a b c) n = absurd n
+continues_dates run now t _ (client.Follows _ s u e g) n = subst (λ z. Dates t.config now z (Some u)) (sym e) (inl g.date)
+continues_dates run now t _ (client.Learns _ e u h) n = dates_same t.config now t.here.session
+continues_dates run now t _ (client.Forgets _ ino p i) n = dates_same t.config now t.here.session
+continues_dates run now t _ (client.Caches _ clean) n = dates_same t.config now t.here.session
+continues_dates run now t _ (client.Writes _ s f p bytes x sv own m h i) n = dates_same t.config now t.here.session
+continues_dates run now t _ (client.Reads _ ino p m i clean) n = dates_same t.config now t.here.session
+continues_dates run now t _ (client.Submits _ s ino p d m e i k w) n = dates_same t.config now t.here.session
 
 plain_said : (t : ThirdTurn) (u : Turn) (more : List Output) → u.out ≡ t.plain.out ++ more → all_said (with_plain u t) ≡ all_said t ++ map plain_output more
 plain_said t u more e =
@@ -126,49 +126,49 @@ plain_said t u more e =
 record Spoken (t u : Turn) (k : Type 0) : Type 0 where
   more : List Output
   out : u.out ≡ t.out ++ more
-  fine : k → SessionFine t.here.session → (o : Output) → Has o more → WordFine (plain_output o)
+  right : k → (o : Output) → Has o more → SendsRight t o
 
 silent : (t u : Turn) (k : Type 0) → u.out ≡ t.out → Spoken t u k
-silent t u k e = record { more = []; out = e ∙ nothing_after t.out; fine = λ x f o h. absurd h }
+silent t u k e = record { more = []; out = e ∙ nothing_after t.out; right = λ x o h. absurd h }
 
-one_word : (t u : Turn) (k : Type 0) (o : Output) → u.out ≡ t.out ++ o ∷ [] → (k → SessionFine t.here.session → WordFine (plain_output o)) → Spoken t u k
-one_word t u k o e f = record { more = o ∷ []; out = e; fine = λ x g y h. one x g y h }
+one_word : (t u : Turn) (k : Type 0) (o : Output) → u.out ≡ t.out ++ o ∷ [] → (k → SendsRight t o) → Spoken t u k
+one_word t u k o e f = record { more = o ∷ []; out = e; right = λ x y h. one x y h }
   where
-    one : k → SessionFine t.here.session → (y : Output) → Has y (o ∷ []) → WordFine (plain_output y)
-    one x g y (inl q) = subst (λ z. WordFine (plain_output z)) (sym q) (f x g)
-    one x g y (inr i) = absurd i
+    one : k → (y : Output) → Has y (o ∷ []) → SendsRight t y
+    one x y (inl q) = subst (SendsRight t) (sym q) (f x)
+    one x y (inr i) = absurd i
 
 sent_fine : (t : Turn) (b : Body) → Sends t b → SessionFine t.here.session → NoDemand b
 sent_fine t _ Greets f = tt
 sent_fine t _ (Sees ino g) f = tt
 sent_fine t b (Asks s q _ e p i) f = subst NoDemand (sym i) (subst RequestFine p (subst SessionFine e f))
 
-said_fine : (t : Turn) (o : Output) → SendsRight t o → SessionFine t.here.session → WordFine (plain_output o)
+pub said_fine : (t : Turn) (o : Output) → SendsRight t o → SessionFine t.here.session → WordFine (plain_output o)
 said_fine t (outputs.Send m) s f = sent_fine t m.body s f
 said_fine t (outputs.Submit number at what) s f = tt
 said_fine t (outputs.Answer op a) s f = tt
 said_fine t (outputs.Note n) s f = tt
 
-spoken : (now : Stamp) (t u : Turn) (c : client.Change now t u) → Spoken t u (Continues now t u c)
+spoken : (run : ℕ) (now : Stamp) (t u : Turn) (c : client.Change now t u) → Spoken t u (Continues run now t u c)
 unfolding passes.submit_read passes.submit_write passes.submit_command
-spoken now t _ (client.Says _ o p) = one_word t _ _ o refl (λ k f. said_fine t o k f)
-spoken now t _ (client.Operates _ os) = silent t _ _ refl
-spoken now t _ (client.Answers _ os ops a) =
+spoken run now t _ (client.Says _ o p) = one_word t _ _ o refl (λ k. k)
+spoken run now t _ (client.Operates _ os) = silent t _ _ refl
+spoken run now t _ (client.Answers _ os ops a) =
     record {
       more = map (answer_to a) ops;
       out = refl;
-      fine = λ k f o h. let z = has_map (answer_to a) ops o h in subst (λ x. WordFine (plain_output x)) (sym z.2) tt;
+      right = λ k o h. let z = has_map (answer_to a) ops o h in subst (SendsRight t) (sym z.2) tt;
     }
-spoken now t _ (client.Greets _ g) = silent t _ _ refl
-spoken now t _ (client.TellsLost _ lost) = silent t _ _ refl
-spoken now t _ (client.Begins _ s a b c) = silent t _ _ refl
-spoken now t _ (client.Follows _ s u e g) = silent t _ _ refl
-spoken now t _ (client.Learns _ e u h) = silent t _ _ refl
-spoken now t _ (client.Forgets _ ino p i) = silent t _ _ refl
-spoken now t _ (client.Caches _ clean) = silent t _ _ refl
-spoken now t _ (client.Writes _ s f p bytes x sv own m h i) = one_word t _ _ (outputs.Note x) refl (λ k f. tt)
-spoken now t _ (client.Reads _ ino p m i clean) = one_word t _ _ _ refl (λ k f. tt)
-spoken now t _ (client.Submits _ s ino p d m e i k w) = one_word t _ _ _ refl (λ k f. tt)
+spoken run now t _ (client.Greets _ g) = silent t _ _ refl
+spoken run now t _ (client.TellsLost _ lost) = silent t _ _ refl
+spoken run now t _ (client.Begins _ s a b c) = silent t _ _ refl
+spoken run now t _ (client.Follows _ s u e g) = silent t _ _ refl
+spoken run now t _ (client.Learns _ e u h) = silent t _ _ refl
+spoken run now t _ (client.Forgets _ ino p i) = silent t _ _ refl
+spoken run now t _ (client.Caches _ clean) = silent t _ _ refl
+spoken run now t _ (client.Writes _ s f p bytes x sv own m h i) = one_word t _ _ (outputs.Note x) refl (λ k. tt)
+spoken run now t _ (client.Reads _ ino p m i clean) = one_word t _ _ _ refl (λ k. tt)
+spoken run now t _ (client.Submits _ s ino p d m e i k w) = one_word t _ _ _ refl (λ k. tt)
 
 -- what may be asked isn't a demand
 may_fine : (s : ClientSession) (cutting : Option ℕ) (b : Body) → MayAsk s cutting b → NoDemand b
@@ -185,37 +185,38 @@ session_fine st s _ (NewEpoch _ epoch n) f = tt
 session_fine st s _ (AsksNew _ r now body cutting a c i) f = may_fine r cutting body i.may
 session_fine st s _ (AsksAgain _ now q e) f = subst RequestFine e f
 
-asks_fine : (now : Stamp) (t u : Turn) (c : client.Change now t u) → Continues now t u c → SessionFine t.here.session → SessionFine u.here.session
+asks_fine : (run : ℕ) (now : Stamp) (t u : Turn) (c : client.Change now t u) → Continues run now t u c → SessionFine t.here.session → SessionFine u.here.session
 unfolding passes.submit_read passes.submit_write passes.submit_command
-asks_fine now t _ (client.Says _ o p) n f = f
-asks_fine now t _ (client.Operates _ os) n f = f
-asks_fine now t _ (client.Answers _ os ops a) n f = f
-asks_fine now t _ (client.Greets _ g) n f = f
-asks_fine now t _ (client.TellsLost _ lost) n f = f
-asks_fine now t _ (client.Begins _ s a b c) n f = absurd n
-asks_fine now t _ (client.Follows _ s u e g) n f = session_fine t.here.store s u g.how (subst SessionFine e f)
-asks_fine now t _ (client.Learns _ e u h) n f = f
-asks_fine now t _ (client.Forgets _ ino p i) n f = f
-asks_fine now t _ (client.Caches _ clean) n f = f
-asks_fine now t _ (client.Writes _ s g p bytes x sv own m h i) n f = f
-asks_fine now t _ (client.Reads _ ino p m i clean) n f = f
-asks_fine now t _ (client.Submits _ s ino p d m e i k w) n f = f
+asks_fine run now t _ (client.Says _ o p) n f = f
+asks_fine run now t _ (client.Operates _ os) n f = f
+asks_fine run now t _ (client.Answers _ os ops a) n f = f
+asks_fine run now t _ (client.Greets _ g) n f = f
+asks_fine run now t _ (client.TellsLost _ lost) n f = f
+asks_fine run now t _ (client.Begins _ s a b c) n f = absurd n
+asks_fine run now t _ (client.Follows _ s u e g) n f = session_fine t.here.store s u g.how (subst SessionFine e f)
+asks_fine run now t _ (client.Learns _ e u h) n f = f
+asks_fine run now t _ (client.Forgets _ ino p i) n f = f
+asks_fine run now t _ (client.Caches _ clean) n f = f
+asks_fine run now t _ (client.Writes _ s g p bytes x sv own m h i) n f = f
+asks_fine run now t _ (client.Reads _ ino p m i clean) n f = f
+asks_fine run now t _ (client.Submits _ s ino p d m e i k w) n f = f
 
-plain_next : (now : Stamp) (t : ThirdTurn) (u : Turn) (c : client.Change now t.plain u) → Continues now t.plain u c → ThirdNext now t (with_plain u t)
-plain_next now t u c k =
+plain_next : (run : ℕ) (now : Stamp) (t : ThirdTurn) (u : Turn) (c : client.Change now t.plain u) → Continues run now t.plain u c →
+    ThirdNext now t (with_plain u t)
+plain_next run now t u c k =
     let n = change_next now t.plain u c in
-    let w = spoken now t.plain u c in
+    let w = spoken run now t.plain u c in
     record {
       config = n.config;
       limits = refl;
       server = n.server;
       life = n.life;
-      dates = continues_dates now t.plain u c k;
+      dates = continues_dates run now t.plain u c k;
       fit = n.fit;
       more = map plain_output w.more;
       said = plain_said t u w.more w.out;
-      asks = asks_fine now t.plain u c k;
-      quiet = λ f o h. let z = has_map plain_output w.more o h in subst WordFine (sym z.2) (w.fine k f z.0 z.1);
+      asks = asks_fine run now t.plain u c k;
+      quiet = λ f o h. let z = has_map plain_output w.more o h in subst WordFine (sym z.2) (said_fine t.plain z.0 (w.right k z.0 z.1) f);
     }
 
 -- A change of the session alone.
@@ -256,7 +257,7 @@ reduced_next now t s d ino e i = held (locks.lock_of s.locks d.ino)
         forgets : (to : Mode) → ThirdNext now t (with_plain (with_store (passes.forgotten_at ino to t.plain.here.store) t.plain) t)
         forgets modes.None =
             let c : client.Change now t.plain _ = client.Forgets t.plain ino (page_no 0) i in
-            plain_next now t _ c tt
+            plain_next 0 now t _ c tt
         forgets modes.S = next_still now t
         forgets modes.X = next_still now t
 
@@ -283,9 +284,9 @@ said_word o w x (inl e) = subst WordFine (sym e) (word o w)
     word (says.Ended s life end) w = tt
 said_word o w x (inr i) = absurd i
 
-change_third : (now : Stamp) (t u : ThirdTurn) → ThirdChange now t u → ThirdNext now t u
+pub change_third : (now : Stamp) (t u : ThirdTurn) → ThirdChange now t u → ThirdNext now t u
 unfolding Rattle.st_third.specs.State.say Rattle.st_third.specs.State.plainly
-change_third now t _ (Plainly _ u c p) = plain_next now t u c p
+change_third now t _ (Plainly _ u c p) = plain_next t.beside.run now t u c p
 change_third now t _ (Says _ o w) =
     record {
       config = refl;
@@ -314,7 +315,7 @@ change_third now t _ (Leaves _ ls) =
       asks = λ f. f;
       quiet = λ f o h. absurd h;
     }
-change_third now t _ (IsBeside _ b) =
+change_third now t _ (IsBeside _ b l) =
     record {
       config = refl;
       limits = refl;
@@ -356,3 +357,64 @@ change_third now t _ (Reduces _ s d ino e q i) = reduced_next now t s d ino e i
 pub changes_third : (now : Stamp) (t u : ThirdTurn) → ThirdChanges now t u → ThirdNext now t u
 changes_third now t _ (Still _) = next_still now t
 changes_third now t v (Then _ u _ c cs) = next_both now t u v (change_third now t u c) (changes_third now u v cs)
+
+-- a reduction says nothing
+reduced_says : (t : ThirdTurn) (s : ClientSession) (d : DemandedFile) (ino : ℕ) → all_said (with_plain (reduced s (Some d) ino t.plain) t) ≡ all_said t
+unfolding passes.reduce_by passes.reduce_given passes.reduce_to locks.reduce_at locks.reduce_lock
+reduced_says t s d ino = held (locks.lock_of s.locks d.ino)
+  where
+    held : (l : Option HeldLock) → all_said (with_plain (passes.reduce_by t.plain s ino (locks.reduce_lock s.locks d l)) t) ≡ all_said t
+    held None = refl
+    held (Some l) = refl
+
+-- What a change says
+
+-- a word that is right at a turn: a message is one of those that are sent, and no life ends
+abbrev pub WordRight : Turn → ThirdOutput → Type 0
+WordRight t (says.Plain o) = SendsRight t o
+WordRight t (says.Ended s life end) = ⊥
+WordRight t o = Unit {0}
+
+-- the words that a change says, and no others
+pub record SaysMore (t u : ThirdTurn) : Type 0 where
+  pub more : List ThirdOutput
+  pub said : all_said u ≡ all_said t ++ more
+  pub right : (o : ThirdOutput) → Has o more → WordRight t.plain o
+
+says_none : (t u : ThirdTurn) → all_said u ≡ all_said t → SaysMore t u
+says_none t u e = record { more = []; said = e ∙ nothing_after (all_said t); right = λ o h. absurd h }
+
+word_right : (t : Turn) (o : ThirdOutput) → PlainWord o → WordRight t o
+word_right t (says.Plain (outputs.Send m)) w = absurd w
+word_right t (says.Plain (outputs.Submit number at what)) w = tt
+word_right t (says.Plain (outputs.Answer op a)) w = tt
+word_right t (says.Plain (outputs.Note n)) w = tt
+word_right t (says.Left op) w = tt
+word_right t (says.Unsynced op ino) w = tt
+word_right t (says.Ended s life end) w = w
+
+pub change_says : (now : Stamp) (t u : ThirdTurn) → ThirdChange now t u → SaysMore t u
+unfolding Rattle.st_third.specs.State.say Rattle.st_third.specs.State.plainly
+change_says now t _ (Plainly _ u c p) =
+    let w = spoken t.beside.run now t.plain u c in
+    record {
+      more = map plain_output w.more;
+      said = plain_said t u w.more w.out;
+      right = λ o h. let z = has_map plain_output w.more o h in subst (WordRight t.plain) (sym z.2) (w.right p z.0 z.1);
+    }
+change_says now t _ (Says _ o w) =
+    record {
+      more = o ∷ [];
+      said = sym (nothing_after (all_said t ++ o ∷ []));
+      right = λ x h. one x h;
+    }
+  where
+    one : (x : ThirdOutput) → Has x (o ∷ []) → WordRight t.plain x
+    one x (inl e) = subst (WordRight t.plain) (sym e) (word_right t.plain o w)
+    one x (inr i) = absurd i
+change_says now t _ (Leaves _ ls) = says_none t _ refl
+change_says now t _ (IsBeside _ b l) = says_none t _ refl
+change_says now t _ (WaitsForRoom _ n) = says_none t _ refl
+change_says now t _ (Begins _ epoch stamp e f) = says_none t _ refl
+change_says now t _ (GivesBack _ s l e h) = says_none t _ refl
+change_says now t _ (Reduces _ s d ino e q i) = says_none t _ (reduced_says t s d ino)

@@ -9,14 +9,18 @@ mod UsedOnce
 mod Rooms
 mod GivingBack
 mod Leaving
+mod Replying
 mod Receiving
 mod Finishing
 mod Passing
 mod Facts
+mod Folds
 mod Rules
 mod Stepping
 pub mod Moves
+mod Told
 pub mod Sound
+mod AllClients
 mod Welcomes
 mod Demands
 pub mod DemandRuns
@@ -24,3 +28,4 @@ mod ServerWords
 mod ClientWords
 mod Mail
 mod DemandsSeen
+mod ShortRuns

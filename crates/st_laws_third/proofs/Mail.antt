@@ -144,7 +144,7 @@ server_notes_post sc s (notes.Patched f p at bytes) = post_as _ _ refl refl
 
 server_post : (sc : WorldTurn) (s : ServerId) (o : Output) → words.WordFine o → Post sc.world (ev.server_says sc s o).world
 unfolding ev.server_says ev.sends
-server_post sc s (outputs.Send m) f = record { servers = refl; mail = λ g. one_more sc.world.net.messages (record { message = m; lost = false }) f g }
+server_post sc s (outputs.Send m) f = record { servers = refl; mail = λ g. one_more sc.world.net.messages (record { message = m; lost = false }) f.0 g }
 server_post sc s (outputs.Note n) f = server_notes_post sc s n
 server_post sc s (outputs.Submit number at what) f = post_as _ _ refl refl
 server_post sc s (outputs.Answer op answer) f = post_as _ _ refl refl

@@ -1,19 +1,24 @@
 -- The passes of a client of the third form are lists of changes.
 use Rattle.st_lemmas.proofs.Words
-use Words.{◌≡◌, ℕ, Bool, true, false, ◌&&◌, not, ◌==◌, List, [], ◌∷◌, Option, Some, None, find, refl, ap, sym, ◌∙◌, inl, is_some, if◌then◌else◌, eqb-true, eq-eqb}
-use Words.{Ask, Body, Operation, ServerId, Stamp}
+use Words.{◌≡◌, ◌≤◌, ◌+◌, ℕ, zero, suc, pred, Bool, true, false, ◌&&◌, not, ◌==◌, List, [], ◌∷◌, Option, Some, None, find, refl, ap, sym, subst, ◌∙◌, inl, arith, is_some, if◌then◌else◌, eqb-true, eq-eqb}
+use Words.{Ask, Body, Operation, Release, Request, ServerId, Stamp}
 use Words.asks
 use Words.bodies
+use Words.Client as cl
+use Words.ClientLease as lease
+use Words.ClientLocks as locks
 use Words.ClientPages.{Store}
 use Words.ClientPasses as passes
-use Words.ClientState.{ClientSession, file_of, is_busy, is_file, is_of, is_serving, reasserts, server_of, with_operations}
+use Words.ClientState.{ClientSession, Turn, asking, file_of, is_busy, is_file, is_of, is_serving, reasserts, send, server_of, with_operations, with_session}
+use Words.Keys.{page_no}
 use Words.Lookups.{or_false, some_is}
-use Words.Tables.{and_true, not_true}
+use Words.Tables.{and_both, and_true, not_true}
 use Words.Truth.{not_both}
 use Rattle.st_laws_steps.specs.Client.Client as client
-use Rattle.st_laws_steps.specs.Client.Client.{map_in}
-use Rattle.st_laws_steps.specs.Client.Session.{MayAsk, cuts_from}
+use Rattle.st_laws_steps.specs.Client.Client.{map_asked, map_in}
+use Rattle.st_laws_steps.specs.Client.Session.{AsksAgain, MayAsk, cuts_from}
 use Rattle.st_laws_steps.proofs.Client.Asking.{AskingAt, Wants, WantsAt, changes_by_ask_for_or, requests_keep_or_ask, wants_what_it_needs}
+use Rattle.st_laws_steps.proofs.Client.Passing as passing
 use Rattle.st_laws_steps.proofs.Client.Passing.{Uncut}
 use Rattle.st_laws_steps.proofs.Client.Working.{changes_by_quiesce, changes_by_sync}
 use Rattle.st_third.specs.declared.beside.Leave.{Leave}
@@ -25,8 +30,8 @@ use Rattle.st_third.specs.Runs as runs
 use Rattle.st_third.specs.State as state
 use Rattle.st_third.specs.State.{ThirdTurn, here, is_active, session}
 use Rattle.st_third.specs.UsedOnce as used
-use Rattle.st_laws_third.specs.Changes.{ThirdChanges, ThirdPasses, Still}
-use Rattle.st_laws_third.proofs.Chains.{both, by_rule, either, old_one, old_pass}
+use Rattle.st_laws_third.specs.Changes.{ThirdChanges, ThirdPasses, Asks, IsRun, Still}
+use Rattle.st_laws_third.proofs.Chains.{Old, RequestRun, SessionRun, both, by_rule, either, old_asks, old_both, old_either, old_one, old_pass, old_still}
 use Rattle.st_laws_third.proofs.GivingBack.{gives}
 use Rattle.st_laws_third.proofs.Leaving.{greets, leaves, reduces_all, serves_leave}
 use Rattle.st_laws_third.proofs.Rooms.{keeps, serves, writes}
@@ -93,7 +98,13 @@ module _ (now : Stamp) where
 
   wants_run : (t : ThirdTurn) (s : ClientSession) (st : Store) (w : passes.Wanted) → Wants s st w → Wants s st (record w { body = runs.run_asked t w.body })
   wants_run t s st w h =
-      record { asks = λ x e. h.asks x (sym (maps w.body) ∙ e); new = same w.body ∙ h.new; may = may w.body h.may; cuts = λ c e. let k = h.cuts c e in (k.0, maps w.body ∙ k.1, cuts w.body ∙ k.2) }
+      record {
+        asks = λ x e. h.asks x (sym (maps w.body) ∙ e);
+        new = same w.body ∙ h.new;
+        may = may w.body h.may;
+        cuts = λ c e. let k = h.cuts c e in
+            (k.0, maps w.body ∙ k.1, cuts w.body ∙ k.2);
+      }
     where
       maps : (b : Body) → map_in (runs.run_asked t b) ≡ map_in b
       maps (bodies.Allocate ino g p count) = refl
@@ -146,18 +157,145 @@ module _ (now : Stamp) where
       nothing None e = refl
       nothing (Some x) e = cc e
 
+  -- The run that is asked for is within the limit of runs.
+
+  run_most : (t : ThirdTurn) (ino n p : ℕ) → runs.run_from t ino n p ≤ n
+  unfolding runs.run_from
+  run_most t ino zero p = omega arith
+  run_most t ino (suc n) p = go (runs.is_run_page t ino (page_no p)) (run_most t ino n (p + 1))
+    where
+      go : (b : Bool) → runs.run_from t ino n (p + 1) ≤ n → (if b then runs.run_from t ino n (p + 1) + 1 else 0) ≤ suc n
+      go true h = omega (arith, h)
+      go false h = omega arith
+
+  run_within : (t : ThirdTurn) (b : Body) → IsRun t.beside.run (runs.run_asked t b)
+  run_within t (bodies.Allocate ino g p count) = let z = run_most t ino (pred t.beside.run) (p.0 + 1) in omega (arith, z)
+  run_within t b = tt
+
+  abbrev WantedRun : ℕ → Option passes.Wanted → Type 0
+  WantedRun run None = Unit {0}
+  WantedRun run (Some w) = IsRun run w.body
+
+  abbrev AskingRun : ℕ → Option passes.Asking → Type 0
+  AskingRun run None = Unit {0}
+  AskingRun run (Some a) = IsRun run a.wanted.body
+
+  asked_within : (t : ThirdTurn) (s : ClientSession) (o : Operation) → WantedRun t.beside.run (third.asked_by t s now o)
+  unfolding third.asked_by runs.with_run
+  asked_within t s o = go (third.may_ask t s o && not (third.must_wait t s now o))
+    where
+      at : (w : Option passes.Wanted) → WantedRun t.beside.run (runs.with_run t w)
+      at None = tt
+      at (Some w) = run_within t w.body
+
+      go : (b : Bool) → WantedRun t.beside.run (if b then runs.with_run t (passes.want t.plain s now o.ask) else None)
+      go true = at (passes.want t.plain s now o.ask)
+      go false = tt
+
+  first_within : (t : ThirdTurn) (s : ClientSession) (os : List Operation) → AskingRun t.beside.run (third.first_asking t s now os)
+  unfolding third.first_asking passes.asks_or
+  first_within t s [] = tt
+  first_within t s (o ∷ os) = go (third.asked_by t s now o) (asked_within t s o) (third.first_asking t s now os) (first_within t s os)
+    where
+      go : (w : Option passes.Wanted) → WantedRun t.beside.run w → (a : Option passes.Asking) → AskingRun t.beside.run a →
+          AskingRun t.beside.run (passes.asks_or o os a w)
+      go None w None a = tt
+      go None w (Some x) a = a
+      go (Some x) w a k = w
+
+  -- What is outstanding after the requests.
+  module _ (run : ℕ) (t : Turn) (s : ClientSession) (e : t.here.session ≡ Some s) where
+    sent_within : (u : Turn) (r : ClientSession) (body : Body) (cutting : Option ℕ) → IsRun run body →
+        SessionRun run (passes.ask u r now body cutting).here.session
+    unfolding passes.ask send asking
+    sent_within u r body cutting h = h
+
+    none_within : s.requests.asked ≡ None → SessionRun run t.here.session
+    none_within n = subst (SessionRun run) (sym e) (subst (RequestRun run) (sym n) tt)
+
+    alive_within : s.requests.asked ≡ None → SessionRun run (passes.keep_alive t s now).here.session
+    unfolding passes.keep_alive
+    alive_within n = go (lease.is_renewing (lease.phase_of t.config s.lease now))
+      where
+        go : (b : Bool) → SessionRun run (if b then passes.ask t s now bodies.KeepAlive None else t).here.session
+        go true = sent_within t s bodies.KeepAlive None tt
+        go false = none_within n
+
+    for_within : (a : Option passes.Asking) → s.requests.asked ≡ None → AskingRun run a → SessionRun run (passes.ask_for_or t s now a).here.session
+    unfolding passes.ask_for_or passes.ask_for
+    for_within None n h = alive_within n
+    for_within (Some a) n h = sent_within _ s a.wanted.body _ h
+
+    -- without an operation that may ask
+    new_within : s.requests.asked ≡ None → (s.due ≡ false → s.releases ≡ [] → is_serving t.config s now ≡ true → ⊥) →
+        SessionRun run (passes.ask_new t s now).here.session
+    unfolding passes.ask_new passes.reassert passes.ask_by passes.ask_release passes.ask_next
+    new_within n never = go s.due refl
+      where
+        next : s.due ≡ false → s.releases ≡ [] → (b : Bool) → is_serving t.config s now ≡ b →
+            SessionRun run (if b then passes.ask_for_or t s now (passes.first_asking t s now t.operations) else passes.keep_alive t s now).here.session
+        next d r true v = absurd (never d r v)
+        next d r false v = alive_within n
+
+        by : s.due ≡ false → (rs : List Release) → s.releases ≡ rs → SessionRun run (passes.ask_by t s now rs).here.session
+        by d [] r = next d r (is_serving t.config s now) refl
+        by d (x ∷ xs) r = sent_within t (record s { releases = xs }) (bodies.Released x.ino x.g x.to) None tt
+
+        go : (b : Bool) → s.due ≡ b → SessionRun run (if b then passes.reassert t s now else passes.ask_by t s now s.releases).here.session
+        go true d = sent_within t s (bodies.Reassert (locks.all_locks s.locks)) None tt
+        go false d = by d s.releases refl
+
+    asks_again : (tick : Bool) (q : Request) → s.requests.asked ≡ Some q → Old run now t (passes.repeat t s now tick q)
+    unfolding passes.repeat passes.ask_again send
+    asks_again tick q a =
+        old_either (passes.is_old t.config now tick q) t _ _
+        (λ b. old_both
+        (old_one (client.Follows t s (passes.again_session s now q) e
+        (record { how = AsksAgain s now q a; date = omega arith; asks = λ x i. inl (ap map_asked a ∙ i) })) tt)
+        (old_one (client.Says (with_session (passes.again_session s now q) t) _ tt)
+        (Asks (passes.again_session s now q) (record q { sent = now }) q.body refl refl refl)))
+        (λ b. old_still t)
+
+    asks_else : (tick : Bool) → (s.lease.condemned ≡ false → s.requests.asked ≡ None → s.due ≡ false → s.releases ≡ [] → is_serving t.config s now ≡ true → ⊥) →
+        Old run now t (passes.requests now tick t)
+    unfolding passes.requests passes.requests_by passes.requests_under passes.requests_at
+    asks_else tick never = subst (Old run now t) (sym (ap (passes.requests_by t now tick) e)) (go s.requests.asked refl)
+      where
+        final : s.requests.asked ≡ None → (b : Bool) → s.lease.condemned ≡ b →
+            SessionRun run (if b then t else passes.ask_new t s now).here.session
+        final n true c = none_within n
+        final n false c = new_within n (never c n)
+
+        go : (o : Option Request) → s.requests.asked ≡ o → Old run now t (if s.lease.condemned then t else passes.requests_at t s now tick o)
+        go (Some q) a = old_either s.lease.condemned t _ _ (λ c. old_still t) (λ c. asks_again tick q a)
+        go None a =
+            old_asks
+            (subst (passing.Changes [] passing.OnlyAsks now t)
+            (ap (passes.requests_by t now tick) e ∙ ap (λ o. if s.lease.condemned then t else passes.requests_at t s now tick o) a)
+            (requests_keep_or_ask now tick t))
+            (final a s.lease.condemned refl)
+
   requests : (tick : Bool) (t : ThirdTurn) → C t (third.requests now tick t)
   unfolding third.requests third.requests_by third.requests_under
   requests tick t = go (session t) refl
     where
+      may_not : (s : ClientSession) → third.may_operations_ask t s now ≡ false → s.lease.condemned ≡ false → s.requests.asked ≡ None → s.due ≡ false →
+          s.releases ≡ [] → is_serving t.plain.config s now ≡ true → ⊥
+      may_not s m c a d r v =
+          not_both (third.may_operations_ask t s now)
+          (and_both _ _ (and_both _ _ v (ap not c))
+          (and_both _ _ (ap (λ (o : Option Request). not (is_some o)) a)
+          (and_both _ _ (ap not d) (ap (λ (rs : List Release). not (cl.is_any rs)) r)))) m
+
       go : (x : Option ClientSession) → session t ≡ x → C t (third.requests_by t now tick x)
       go None e = Still t
       go (Some s) e =
           either (third.may_operations_ask t s now) t _ _
-          (λ m. let z = is_free t s m in
-          by_rule t (third.asked_for s now (third.first_asking t s now t.plain.operations))
-          (old_pass (changes_by_ask_for_or now t.plain s (third.first_asking t s now t.plain.operations) e z.0 z.1 (wants_first t s t.plain.operations))))
-          (λ m. by_rule t (passes.requests now tick) (old_pass (requests_keep_or_ask now tick t.plain)))
+          (λ m. let z = is_free t s m in let a = third.first_asking t s now t.plain.operations in
+          by_rule t (third.asked_for s now a)
+          (old_asks (changes_by_ask_for_or now t.plain s a e z.0 z.1 (wants_first t s t.plain.operations))
+          (for_within t.beside.run t.plain s e a z.0 (first_within t s t.plain.operations))))
+          (λ m. by_rule t (passes.requests now tick) (asks_else t.beside.run t.plain s e tick (may_not s m)))
 
   -- All passes
   pub passes_change : (tick : Bool) (t : ThirdTurn) → ThirdPasses now t (third.third_passes now tick t)

@@ -1,6 +1,6 @@
 -- What a client of the third form does with a server's message is a list of changes.
 use Rattle.st_lemmas.proofs.Words
-use Words.{◌≡◌, ℕ, Bool, true, false, ◌==◌, Option, Some, None, refl, ap, ◌∙◌, is_some, ltb-true, if◌then◌else◌}
+use Words.{◌≡◌, ℕ, Bool, true, false, ◌==◌, Option, Some, None, refl, ap, ◌∙◌, is_some, ltb-true, nat_lt, if◌then◌else◌}
 use Words.{Asked, Body, Epoch, GrantNo, Header, HeldLock, Mode, NameReply, PageNo, Request, Stamp, Why}
 use Words.answers
 use Words.bodies
@@ -17,82 +17,17 @@ use Rattle.st_laws_steps.specs.Client.Client as client
 use Rattle.st_laws_steps.specs.Client.Client.{map_asked, with_greeted}
 use Rattle.st_laws_steps.specs.Client.Losses.{AskedFresh, SessionFresh}
 use Rattle.st_laws_steps.proofs.Client.Changes.{goes_keeps}
-use Rattle.st_laws_steps.proofs.Client.Replying.{Fresh, alike_demanded, alike_unheld, changes_by_condemn, changes_by_count, changes_by_end_request, changes_by_other}
-use Rattle.st_laws_steps.proofs.Client.Replying.{session_ended}
+use Rattle.st_laws_steps.proofs.Client.Replying.{Fresh, alike_demanded, alike_unheld, session_ended}
 use Rattle.st_third.specs.Limits.{limited_session}
 use Rattle.st_third.specs.Replies as third
 use Rattle.st_third.specs.Runs as runs
 use Rattle.st_third.specs.State.{ThirdTurn, fresh_beside, plainly, session}
-use Rattle.st_laws_third.specs.Changes.{ThirdChanges, Begins, Sees, IsBeside, Plainly, Still, with_plain}
-use Rattle.st_laws_third.proofs.Chains.{Silent, silent_answers, silent_if, silent_said, silent_same, silent_then}
-use Rattle.st_laws_third.proofs.Chains.{Old, both, by_rule, either, old_both, old_heard, old_one, old_still, one}
+use Rattle.st_laws_third.specs.Changes.{ThirdChanges, Begins, FreeRun, Sees, IsBeside, Plainly, Still, WholeRun, with_plain}
+use Rattle.st_laws_third.proofs.Chains.{Old, both, by_rule, either, old_both, old_one, old_still, one}
 use Rattle.st_laws_third.proofs.GivingBack.{is_full_at}
+use Rattle.st_laws_third.proofs.Replying.{ends_request, of_other_epoch}
+use Rattle.st_laws_third.proofs.Replying.{condemns as condemns_lease, counts as counts_as_before}
 use Rattle.st_laws_third.proofs.UsedOnce.{grants}
-
--- What a reply does beside its request's end sends nothing.
-
-ends_silent : (t : Turn) (s : ClientSession) (stamp : Stamp) → Silent t (replies.end_request t s stamp)
-unfolding replies.end_request replies.note_renewal replies.note_lease
-ends_silent t s stamp = go (lease.is_renewal stamp s.lease)
-  where
-    go : (b : Bool) → Silent t (with_session (replies.ended_by stamp s) (if b then replies.note_lease (lease.renewed stamp s.lease) t else t))
-    go true = silent_then t (replies.note_lease (lease.renewed stamp s.lease) t) _ (silent_said t _ tt) (silent_same _ _ refl)
-    go false = silent_same t _ refl
-
-condemns_silent : (t : Turn) (s : ClientSession) → Silent t (replies.condemn t s)
-unfolding replies.condemn
-condemns_silent t s = silent_same t _ refl
-
-names_silent : (t : Turn) (s : ClientSession) (file : Option ℕ) (r : NameReply) → Silent t (replies.named_as t s file r)
-unfolding replies.named_as replies.removed replies.drop_held replies.drop_lock
-names_silent t s None (Ino ino) = silent_same t _ refl
-names_silent t s (Some removed) (Ino ino) = go (locks.lock_of s.locks removed)
-  where
-    go : (l : Option HeldLock) → Silent t (replies.drop_held t s removed l)
-    go None = silent_same t _ refl
-    go (Some l) = silent_same t _ refl
-names_silent t s file (Listed rows) = silent_same t _ refl
-names_silent t s file (Refused code) = silent_same t _ refl
-
-refuses_silent : (t : Turn) (w : Why) (a b : ℕ) (file : Option ℕ) (asked : Body) → Silent t (replies.refuse_as t w a b file asked)
-unfolding replies.refuse_as replies.refuse_file replies.refuse_page replies.refuse_holder
-refuses_silent t why.NoFile a b None asked = silent_same t _ refl
-refuses_silent t why.NoFile a b (Some ino) asked = silent_answers _ _ t
-refuses_silent t why.TooManyLocks a b None asked = silent_same t _ refl
-refuses_silent t why.TooManyLocks a b (Some ino) asked = silent_answers _ _ t
-refuses_silent t why.NoSpace a b file asked = at file (cs.page_asked asked)
-  where
-    at : (f : Option ℕ) (p : Option PageNo) → Silent t (replies.refuse_page t (answers.NoSpace a b) f p)
-    at None p = silent_same t _ refl
-    at (Some ino) None = silent_same t _ refl
-    at (Some ino) (Some p) = silent_answers _ _ t
-refuses_silent t why.NotHolder a b file asked = silent_if (cs.asks_cut_or_remove asked) t _ _ (silent_answers _ _ t) (silent_same t _ refl)
-refuses_silent t w a b file asked = silent_same t _ refl
-
-effects_silent : (now : Stamp) (t : Turn) (s : ClientSession) (reply : Body) (file : Option ℕ) (asked : Body) →
-    Silent t (replies.effect t s now reply file asked)
-unfolding replies.effect replies.granted replies.queued replies.extents replies.learn replies.acknowledged replies.named replies.reasserted replies.refused replies.leave_stuck
-effects_silent now t s (bodies.Granted ino g mode) file asked = silent_same t _ refl
-effects_silent now t s (bodies.Queued ino mode) file asked = silent_same t _ refl
-effects_silent now t s (bodies.Extents ino rows) file asked = silent_if (replies.is_current s.locks asked) t _ _ (silent_same t _ refl) (silent_same t _ refl)
-effects_silent now t s bodies.Ack file asked = silent_answers _ _ t
-effects_silent now t s (bodies.Named r) file asked = silent_then t _ _ (silent_answers _ _ t) (names_silent _ s file r)
-effects_silent now t s bodies.Reasserted file asked = silent_same t _ refl
-effects_silent now t s (bodies.Nack w a b) file asked = silent_then t _ _ (refuses_silent t w a b file asked) (silent_same _ _ refl)
-effects_silent now t s reply file asked = silent_same t _ refl
-
-counts_silent : (now : Stamp) (t : Turn) (s : ClientSession) (stamp : Stamp) (reply asked : Body) → Silent t (replies.count_reply t s now stamp reply asked)
-unfolding replies.count_reply replies.reply_to
-counts_silent now t s stamp reply asked =
-    silent_if (replies.refuses_reassertion reply asked) t _ _ (condemns_silent t s)
-    (silent_then t _ _ (ends_silent t s stamp) (effects_silent now _ (replies.ended_by stamp s) reply (cs.file_asked s.cutting asked) asked))
-
-others_silent : (t : Turn) (s : ClientSession) (epoch : Epoch) (body : Body) → Silent t (replies.of_other_epoch t s epoch body)
-unfolding replies.of_other_epoch replies.newer_epoch replies.follow_epoch
-others_silent t s epoch (bodies.Nack why.OtherEpoch a b) =
-    silent_if (replies.is_newer s epoch) t _ _ (silent_then t (with_session (replies.in_epoch epoch s) t) _ (silent_same t _ refl) (silent_answers _ _ _)) (silent_same t _ refl)
-others_silent t s epoch (bodies.Nack w a b) = silent_same t _ refl
-others_silent t s epoch body = silent_same t _ refl
 
 module _ (now : Stamp) where
   abbrev C : ThirdTurn → ThirdTurn → Type 0
@@ -109,7 +44,7 @@ module _ (now : Stamp) where
       let v : ThirdTurn = with_plain (with_session s u.plain) u in
       both (one (Plainly t _ (client.Greets t.plain None) tt))
       (both (one (Begins u epoch stamp e (ltb-true now.0 _ (and_true (is_some t.plain.here.greeting) _ f).1)))
-      (both (one (Plainly v _ (client.Says v.plain _ tt) tt)) (one (IsBeside _ fresh_beside))))
+      (both (one (Plainly v _ (client.Says v.plain _ tt) tt)) (one (IsBeside _ fresh_beside (WholeRun refl)))))
 
   without : (t : ThirdTurn) (h : Header) (body : Body) → session t ≡ None → C t (third.without_session t now h body)
   unfolding third.without_session third.welcome
@@ -130,19 +65,20 @@ module _ (now : Stamp) where
         r = with_cache (locks.demand s.locks ino g to).locks s
 
         goes : (u : ClientSession) → Rattle.st_laws_steps.specs.Client.Session.AsksNothing t.plain.here.store.extents s u →
-            Old now t.plain (with_session u t.plain)
+            Old t.beside.run now t.plain (with_session u t.plain)
         goes u a = old_one (client.Follows t.plain s u e (goes_keeps t.plain.here.store s u a)) tt
 
-        seen : (u : ClientSession) → Old now t.plain (with_session u t.plain) → Old now t.plain (replies.observe_demand t.plain u ino g)
+        seen : (u : ClientSession) → Old t.beside.run now t.plain (with_session u t.plain) →
+            Old t.beside.run now t.plain (replies.observe_demand t.plain u ino g)
         seen u c = old_both c (old_one (client.Says (with_session u t.plain) _ tt) (Sees ino g))
 
-        go : (a : Asked) → Old now t.plain (third.demand_as r ino g a t.plain)
+        go : (a : Asked) → Old t.beside.run now t.plain (third.demand_as r ino g a t.plain)
         go Reduce = seen r (goes r (alike_demanded t.plain.here.store.extents s ino g to))
         go NotHeld = seen (replies.release_unheld r ino g) (goes (replies.release_unheld r ino g) (alike_unheld t.plain.here.store.extents s ino g to))
         go Stale = old_still t.plain
 
     ends : (t : ThirdTurn) (stamp : Stamp) → session t ≡ Some s → C t (third.end_request t s stamp)
-    ends t stamp e = by_rule t (third.request_ended s stamp) (old_heard s e (ends_silent t.plain s stamp) (changes_by_end_request now t.plain s stamp e))
+    ends t stamp e = by_rule t (third.request_ended s stamp) (ends_request t.beside.run now t.plain s stamp e)
 
     ended : (t : ThirdTurn) (stamp : Stamp) → session (third.end_request t s stamp) ≡ Some (replies.ended_by stamp s)
     unfolding plainly
@@ -150,29 +86,38 @@ module _ (now : Stamp) where
 
     counts : (t : ThirdTurn) (stamp : Stamp) (reply asked : Body) → session t ≡ Some s → fits reply asked ≡ true → Fresh t.plain.here.store asked →
         C t (plainly (third.plain_reply s now stamp reply asked) t)
-    counts t stamp reply asked e f fr = by_rule t (third.plain_reply s now stamp reply asked) (old_heard s e (counts_silent now t.plain s stamp reply asked) (changes_by_count now t.plain s stamp reply asked e f fr))
+    counts t stamp reply asked e f fr = by_rule t (third.plain_reply s now stamp reply asked)
+        (counts_as_before t.beside.run now t.plain s stamp reply asked e f fr)
 
-    refuses : (t : ThirdTurn) (stamp : Stamp) (w : Why) (a b : ℕ) (asked : Body) → session t ≡ Some s → fits (bodies.Nack w a b) asked ≡ true →
+    -- the outstanding request is for this
+    abbrev Asked_for : Body → Type 0
+    Asked_for asked = (q : Request) × (s.requests.asked ≡ Some q) × (q.body ≡ asked)
+
+    refuses : (t : ThirdTurn) (stamp : Stamp) (w : Why) (a b : ℕ) (asked : Body) → Asked_for asked → session t ≡ Some s →
+        fits (bodies.Nack w a b) asked ≡ true →
         Fresh t.plain.here.store asked → C t (third.refused t s now stamp w a b asked)
-    unfolding third.refused third.no_space
-    refuses t stamp why.TooManyLocks a b (bodies.Acquire ino mode) e f fr =
+    unfolding third.refused third.no_space plainly
+    refuses t stamp why.TooManyLocks a b (bodies.Acquire ino mode) x e f fr =
         both (ends t stamp e) (is_full_at (replies.ended_by stamp s) (third.end_request t s stamp) ino (ended t stamp))
-    refuses t stamp why.NoSpace free wanted (bodies.Allocate ino g p count) e f fr =
-        either (runs.is_partly_free free count) t _ _ (λ q. both (ends t stamp e) (one (IsBeside (third.end_request t s stamp) _)))
+    refuses t stamp why.NoSpace free wanted (bodies.Allocate ino g p count) x e f fr =
+        either (runs.is_partly_free free count) t _ _
+        (λ q. both
+        (one (IsBeside t _ (FreeRun s x.0 ino g p count e x.1 x.2 (ltb-true free count (and_true (nat_lt 0 free) (nat_lt free count) q).1))))
+        (ends (runs.with_run_limit free t) stamp e))
         (λ q. counts t stamp (bodies.Nack why.NoSpace free wanted) (bodies.Allocate ino g p count) e f fr)
-    refuses t stamp w a b asked e f fr = counts t stamp (bodies.Nack w a b) asked e f fr
+    refuses t stamp w a b asked x e f fr = counts t stamp (bodies.Nack w a b) asked e f fr
 
-    replies_to : (t : ThirdTurn) (stamp : Stamp) (reply asked : Body) → session t ≡ Some s → fits reply asked ≡ true → Fresh t.plain.here.store asked →
-        C t (third.count_reply t s now stamp reply asked)
+    replies_to : (t : ThirdTurn) (stamp : Stamp) (reply asked : Body) → Asked_for asked → session t ≡ Some s → fits reply asked ≡ true →
+        Fresh t.plain.here.store asked → C t (third.count_reply t s now stamp reply asked)
     unfolding third.count_reply runs.run_restored
-    replies_to t stamp (bodies.Granted ino g mode) asked e f fr =
+    replies_to t stamp (bodies.Granted ino g mode) asked x e f fr =
         both (ends t stamp e) (grants (third.end_request t s stamp) (replies.ended_by stamp s) ino g mode (ended t stamp))
-    replies_to t stamp (bodies.Extents ino rows) asked e f fr =
+    replies_to t stamp (bodies.Extents ino rows) asked x e f fr =
         let u : ThirdTurn = plainly (third.plain_reply s now stamp (bodies.Extents ino rows) asked) t in
         both (counts t stamp (bodies.Extents ino rows) asked e f fr)
-        (either (runs.is_allocated s asked) u _ _ (λ q. one (IsBeside u _)) (λ q. Still u))
-    replies_to t stamp (bodies.Nack w a b) asked e f fr = refuses t stamp w a b asked e f fr
-    replies_to t stamp reply asked e f fr = counts t stamp reply asked e f fr
+        (either (runs.is_allocated s asked) u _ _ (λ q. one (IsBeside u _ (WholeRun refl))) (λ q. Still u))
+    replies_to t stamp (bodies.Nack w a b) asked x e f fr = refuses t stamp w a b asked x e f fr
+    replies_to t stamp reply asked x e f fr = counts t stamp reply asked e f fr
 
     replied : (t : ThirdTurn) (h : Header) (reply : Body) → session t ≡ Some s → AskedFresh t.plain.here.store s.requests.asked →
         C t (third.reply_of t s now h reply)
@@ -183,11 +128,11 @@ module _ (now : Stamp) where
         go None q = Still t
         go (Some r) q =
             either (replies.is_counting h.number reply r) t _ _
-            (λ b. replies_to t (record { 0 = h.stamp }) reply r.body e (and_true (cs.is_request_of h.number r) (fits reply r.body) b).1
+            (λ b. replies_to t (record { 0 = h.stamp }) reply r.body (r, q, refl) e (and_true (cs.is_request_of h.number r) (fits reply r.body) b).1
             (λ x i. fr x (ap map_asked q ∙ i))) (λ b. Still t)
 
     condemns : (t : ThirdTurn) → session t ≡ Some s → C t (plainly (third.condemned s) t)
-    condemns t e = by_rule t (third.condemned s) (old_heard s e (condemns_silent t.plain s) (changes_by_condemn now t.plain s e))
+    condemns t e = by_rule t (third.condemned s) (condemns_lease t.beside.run now t.plain s e)
 
     nacks : (t : ThirdTurn) (h : Header) (w : Why) (a b : ℕ) → session t ≡ Some s → AskedFresh t.plain.here.store s.requests.asked →
         C t (third.nack t s now h w a b)
@@ -217,4 +162,4 @@ module _ (now : Stamp) where
       go None e fr = without t h body e
       go (Some s) e fr =
           either (h.epoch == s.epoch.0) t _ _ (λ b. hears s t h body e fr)
-          (λ b. by_rule t (third.of_other_epoch s (record { 0 = h.epoch }) body) (old_heard s e (others_silent t.plain s _ body) (changes_by_other now t.plain s _ body e)))
+          (λ b. by_rule t (third.of_other_epoch s (record { 0 = h.epoch }) body) (of_other_epoch t.beside.run now t.plain s _ body e))

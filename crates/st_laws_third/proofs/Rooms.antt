@@ -71,7 +71,8 @@ module _ {now : Stamp} where
       unfolding room.patch room.patch_at
       patches f p at bytes own free =
           either (passes.may_write t.plain s f p) t _ _
-          (λ e. go (and_true (passes.holds s modes.X f) (pages.is_mapped t.plain.here.store.extents f.ino p) e).1 (pages.cached t.plain.here.store.pages f.ino p) refl)
+          (λ e. go (and_true (passes.holds s modes.X f) (pages.is_mapped t.plain.here.store.extents f.ino p) e).1
+          (pages.cached t.plain.here.store.pages f.ino p) refl)
           (λ e. keeps t o)
         where
           go : pages.is_mapped t.plain.here.store.extents f.ino p ≡ true → (b : Option (List ℕ)) → pages.cached t.plain.here.store.pages f.ino p ≡ b →
@@ -97,11 +98,12 @@ module _ {now : Stamp} where
     writes_due t ino p d se e =
         either (room.is_writable at t s now tick d) t _ _
         (λ w. by_rule t (room.written_out d)
-        (go (not_true (pages.is_being_written t.plain.here.store.commands d.ino d.page) (and_true (not (pages.is_being_written t.plain.here.store.commands d.ino d.page)) _ w).0)
+        (go (not_true (pages.is_being_written t.plain.here.store.commands d.ino d.page)
+        (and_true (not (pages.is_being_written t.plain.here.store.commands d.ino d.page)) _ w).0)
         (pages.mapping_of t.plain.here.store.extents d.ino d.page) refl)) (λ w. Still t)
       where
         go : pages.is_being_written t.plain.here.store.commands d.ino d.page ≡ false → (m : Option MappedBlock) →
-            pages.mapping_of t.plain.here.store.extents d.ino d.page ≡ m → Old now t.plain (passes.write_out_at t.plain d m)
+            pages.mapping_of t.plain.here.store.extents d.ino d.page ≡ m → Old t.beside.run now t.plain (passes.write_out_at t.plain d m)
         go w None i = old_still t.plain
         go w (Some m) i = old_one (client.Submits t.plain s ino p d m se e i w) tt
 

@@ -1,4 +1,4 @@
--- What a server says: replies, grants, and demands, which have stamp 0. The replies that it keeps are replies.
+-- What a server says: replies, grants, and demands, which have stamp 0; and no requests for blocks. The replies that it keeps are replies.
 use Rattle.st_lemmas.proofs.Words
 use Words.{◌≡◌, ℕ, Bool, true, false, List, [], ◌∷◌, Option, Some, None, Ok, Err, Result, refl, sym, ap, subst, inl, inr, if◌then◌else◌, ◌==◌, ◌+◌, ◌⊎◌, find, nat_lt}
 use Words.{AcceptRefusal, AcquireRefusal, AllocateRefusal, Body, ClientId, Epoch, GrantNo, Header, Life, Mode, NameOp, NameRow, Output, PageNo, ServerInput, Session, SessionState, Stamp, Taken}
@@ -36,6 +36,7 @@ use Rattle.st_third.specs.Server as every
 -- a body that no server starts but in answer, or as a grant
 abbrev pub IsReply : Body → Type 0
 IsReply (bodies.Demand ino g to) = ⊥
+IsReply (bodies.Allocate ino g p count) = ⊥
 IsReply b = Unit {0}
 
 -- a demand has stamp 0
@@ -43,12 +44,18 @@ abbrev pub Stamped : ℕ → Body → Type 0
 Stamped stamp (bodies.Demand ino g to) = stamp ≡ 0
 Stamped stamp b = Unit {0}
 
-reply_stamped : (n : ℕ) (b : Body) → IsReply b → Stamped n b
+-- no blocks are requested
+abbrev pub NoRun : Body → Type 0
+NoRun (bodies.Allocate ino g p count) = ⊥
+NoRun b = Unit {0}
+
+reply_stamped : (n : ℕ) (b : Body) → IsReply b → (Stamped n b) × (NoRun b)
 reply_stamped n (bodies.Demand ino g to) r = absurd r
-reply_stamped n b r = tt
+reply_stamped n (bodies.Allocate ino g p count) r = absurd r
+reply_stamped n b r = (tt, tt)
 
 abbrev pub WordFine : Output → Type 0
-WordFine (outputs.Send m) = Stamped m.header.stamp m.body
+WordFine (outputs.Send m) = (Stamped m.header.stamp m.body) × (NoRun m.body)
 WordFine o = Unit {0}
 
 -- Kept replies.
@@ -234,9 +241,9 @@ reply_fine : (t : ServerTurn) (h : Header) (b : Body) → IsReply b → Fine t �
 unfolding sv.reply
 reply_fine t h b r f = says_fine t _ (reply_stamped h.stamp b r) f
 
-tell_fine : (t : ServerTurn) (c : ClientId) (life : Life) (b : Body) → Fine t → Fine (sv.tell t c life b)
+tell_fine : (t : ServerTurn) (c : ClientId) (life : Life) (b : Body) → NoRun b → Fine t → Fine (sv.tell t c life b)
 unfolding sv.tell
-tell_fine t c life b f = says_fine t _ (stamped b) f
+tell_fine t c life b r f = says_fine t _ (stamped b, r) f
   where
     stamped : (b : Body) → Stamped 0 b
     stamped (bodies.Demand ino g to) = refl
@@ -492,7 +499,7 @@ suspecting_fine t now (inputs.Control m) f = f
 grants_fine : (xs : List (ClientId × Life × ℕ × GrantNo × Mode)) (t : ServerTurn) → Fine t → Fine (sv.tell_granted xs t)
 unfolding sv.tell_granted
 grants_fine [] t f = f
-grants_fine (x ∷ xs) t f = grants_fine xs _ (tell_fine t x.0 x.1 _ f)
+grants_fine (x ∷ xs) t f = grants_fine xs _ (tell_fine t x.0 x.1 _ tt f)
 
 granting_fine : (t : ServerTurn) (now : Stamp) → Fine t → Fine (sv.granting t now)
 unfolding sv.granting sv.grant_waiting sv.grant_by
@@ -501,7 +508,7 @@ granting_fine t now f = fine_if (sv.in_grace t now) _ _ f (grants_fine (locks.ne
 demands_fine : (xs : List (ClientId × Life × ℕ × GrantNo × Mode)) (t : ServerTurn) → Fine t → Fine (sv.tell_demanded xs t)
 unfolding sv.tell_demanded
 demands_fine [] t f = f
-demands_fine (x ∷ xs) t f = demands_fine xs _ (tell_fine t x.0 x.1 _ f)
+demands_fine (x ∷ xs) t f = demands_fine xs _ (tell_fine t x.0 x.1 _ tt f)
 
 demanding_fine : (t : ServerTurn) (now : Stamp) (i : ServerInput) → Fine t → Fine (sv.demanding t now i)
 unfolding sv.demanding sv.demand_by

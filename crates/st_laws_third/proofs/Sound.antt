@@ -32,7 +32,7 @@ use Rattle.st_laws_third.proofs.Moves.{Becomes, Moved, Rests, Changes, Stepped, 
 use Rattle.st_laws_third.proofs.Pairs.{clients_stay_paired}
 use Rattle.st_laws_third.proofs.Stepping.{clients_step_on}
 
-begun_fit : (m : Limits) (a : Association) → a.session ≡ None → a.store ≡ pages.empty_store → Fit (limited_association m a)
+pub begun_fit : (m : Limits) (a : Association) → a.session ≡ None → a.store ≡ pages.empty_store → Fit (limited_association m a)
 begun_fit m a n e =
     subst (λ st. Fit (record a { store = record st { pages = record st.pages { most_clean = m.clean } } })) (sym e)
     (subst (λ x. Fit (record a { session = x; store = record pages.empty_store { pages = record pages.no_pages { most_clean = m.clean } } })) (sym n)
@@ -59,7 +59,8 @@ module _ (w v : ThirdWorld) (so : Sound w) (c : ClientId) (old new : WorldClient
   unfolding plain.crash plain.start
   becomes_fit (Stepped b input q t u z) =
       let o = so.fits.sites c.0 old there in
-      let s = clients_step_on w.limits (record { plain = old.node.state; beside = b }) (clock_of w.world (nodes.Client c)) input (so.fits.pairs c.0 old b there q) o.fit in
+      let s = clients_step_on w.limits (record { plain = old.node.state; beside = b }) (clock_of w.world (nodes.Client c)) input
+      (so.fits.pairs c.0 old b there q) o.fit in
       record {
         config = ap (λ (x : ClientState). x.config) u ∙ s.config ∙ o.config;
         fit =
@@ -92,7 +93,8 @@ module _ (w v : ThirdWorld) (so : Sound w) (c : ClientId) (old new : WorldClient
 
   becomes_paired : Becomes w v c old new d → length d.besides ≡ length new.node.state.associations
   becomes_paired (Stepped b input q t u z) =
-      let p = clients_stay_paired.steps w.limits (record { plain = old.node.state; beside = b }) (clock_of w.world (nodes.Client c)) input (so.fits.pairs c.0 old b there q) in
+      let p = clients_stay_paired.steps w.limits (record { plain = old.node.state; beside = b }) (clock_of w.world (nodes.Client c)) input
+      (so.fits.pairs c.0 old b there q) in
       ap (λ (x : ClientBeside). length x.besides) z ∙ p.paired ∙ sym (ap (λ (s : ClientState). length s.associations) u)
   becomes_paired (Crashed u z) = begun_paired (plain.crash old.node.state) u z
   becomes_paired (Started u z) = begun_paired (plain.start old.node.state) u z
@@ -233,5 +235,6 @@ sound_first k m clients servers disks blocks = record { fits = record { sites = 
 
 pub every_client_fits : EveryClientFits
 every_client_fits k m clients servers disks blocks es =
-    kept_throughout ClientsFit (λ past t e so q move. (sound_after t.third _ so move).fits) es [] (steps.third_traced (third_world k m clients servers disks blocks 3))
+    kept_throughout ClientsFit (λ past t e so q move. (sound_after t.third _ so move).fits) es []
+    (steps.third_traced (third_world k m clients servers disks blocks 3))
     (sound_first k m clients servers disks blocks)

@@ -7,17 +7,16 @@ use Words.ClientPasses as passes
 use Words.ClientReplies as replies
 use Words.ClientState.{ClientSession, forget_wait, is_busy}
 use Words.Tables.{and_true, found_at}
-use Rattle.st_laws_steps.proofs.Client.Changes.{goes_keeps}
 use Rattle.st_laws_steps.proofs.Client.Replying.{granted_alike}
 use Rattle.st_third.specs.State.{ThirdTurn, plainly, session}
 use Rattle.st_third.specs.UsedOnce as used
-use Rattle.st_laws_third.specs.Changes.{ThirdChanges, IsBeside, Reduces, Still}
+use Rattle.st_laws_third.specs.Changes.{ThirdChanges, IsBeside, Reduces, SameRun, Still}
 use Rattle.st_laws_third.proofs.Chains.{both, either, follows, one}
 
 module _ {now : Stamp} where
   owes : (t : ThirdTurn) (ino : ℕ) (mode : Mode) → ThirdChanges now t (used.owe t ino mode)
   unfolding used.owe
-  owes t ino mode = one (IsBeside t _)
+  owes t ino mode = one (IsBeside t _ (SameRun refl))
 
   pub grants : (t : ThirdTurn) (s : ClientSession) (ino : ℕ) (g : GrantNo) (mode : Mode) → session t ≡ Some s →
       ThirdChanges now t (used.granted t s ino g mode)
@@ -25,7 +24,7 @@ module _ {now : Stamp} where
   grants t s ino g mode e =
       let z : ClientSession = forget_wait ino s in
       let taken : ThirdChanges now t (used.take_grant t z ino g mode) =
-      follows t s (replies.grant z ino g mode) e (goes_keeps t.plain.here.store s _ (granted_alike t.plain.here.store.extents s ino g mode)) in
+      follows t s (replies.grant z ino g mode) e (granted_alike t.plain.here.store.extents s ino g mode) in
       either (used.is_installed z ino g) t _ _ (λ q. both taken (owes (used.take_grant t z ino g mode) ino mode)) (λ q. taken)
 
   -- Reductions.
@@ -43,7 +42,8 @@ module _ {now : Stamp} where
   reduces_file ds t ino (Some s) e =
       either (used.may_reduce t s ino) t _ _
       (λ m. reduces ds t s ino e (find (locks.is_demand_on ino) ds) refl
-      (and_true (pages.is_idle t.plain.here.store ino) (not (is_busy t.plain.operations t.plain.here.server s ino)) (and_true (passes.may_reduce t.plain s ino) _ m).0).0)
+      (and_true (pages.is_idle t.plain.here.store ino) (not (is_busy t.plain.operations t.plain.here.server s ino))
+      (and_true (passes.may_reduce t.plain s ino) _ m).0).0)
       (λ m. Still t)
 
   pub reduces_each : (ds : List DemandedFile) (inos : List ℕ) (t : ThirdTurn) → ThirdChanges now t (used.reduce_each ds inos t)

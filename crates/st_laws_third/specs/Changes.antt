@@ -1,9 +1,10 @@
 -- What the rules of a client of the third form do at one server, as a list of small changes: those of
 -- the first two forms, and a few more.
-use Rattle.std.specs.Prelude.{◌≡◌, ℕ, ◌+◌, ◌<◌, Bool, true, false, List, Some, None}
+use Rattle.std.specs.Prelude.{◌≡◌, ℕ, ◌+◌, ◌<◌, ◌≤◌, pred, Bool, true, false, List, Some, None}
 use Rattle.st_base.specs.declared.ids.Epoch.{Epoch}
 use Rattle.st_base.specs.declared.ids.Stamp.{Stamp}
 use Rattle.st_base.specs.declared.ids.GrantNo.{GrantNo}
+use Rattle.st_base.specs.declared.ids.PageNo.{PageNo}
 use Rattle.st_messages.specs.declared.message.Body.{Body}
 use Rattle.st_messages.specs.declared.message.Body.TheVariants as bodies
 use Rattle.st_messages.specs.declared.output.Output.{Output}
@@ -13,11 +14,13 @@ use Rattle.st_rules.specs.declared.client.Request.{Request}
 use Rattle.st_rules.specs.declared.client.HeldLock.{HeldLock}
 use Rattle.st_rules.specs.ClientLease as lease
 use Rattle.st_rules.specs.ClientPages as pages
+use Rattle.st_rules.specs.ClientPages.{Store}
 use Rattle.st_rules.specs.ClientReplies as replies
 use Rattle.st_rules.specs.ClientState.{ClientSession, Turn}
 use Rattle.st_laws_steps.specs.Client.Client as client
 use Rattle.st_laws_steps.specs.Client.Client.{Change}
 use Rattle.st_laws_steps.specs.Client.Losses.{Ends, is_ended}
+use Rattle.st_laws_steps.specs.Client.Session.{SessionChange, AsksNew}
 use Rattle.st_lemmas.specs.Lists.{Has}
 use Rattle.st_third.specs.declared.beside.Leave.{Leave}
 use Rattle.st_third.specs.declared.output.ThirdOutput.{ThirdOutput}
@@ -25,7 +28,7 @@ use Rattle.st_third.specs.declared.output.ThirdOutput.TheVariants as says
 use Rattle.st_third.specs.GiveBack.{demanded}
 use Rattle.st_third.specs.Leave.{emptied, noted_lost}
 use Rattle.st_third.specs.Limits.{limited_session}
-use Rattle.st_third.specs.State.{Beside, ThirdTurn, here, say, session, with_beside, with_its_session}
+use Rattle.st_third.specs.State.{Beside, RUN, ThirdTurn, here, say, session, with_beside, with_its_session}
 use Rattle.st_third.specs.UsedOnce.{reduced}
 
 -- with this turn of the first two forms
@@ -62,22 +65,42 @@ abbrev pub SendsRight : Turn → Output → Type 0
 SendsRight t (outputs.Send m) = Sends t m.body
 SendsRight t o = Unit {0}
 
--- a change of the first two forms that begins no session, and sends nothing else
-abbrev pub Continues : (now : Stamp) (t u : Turn) → Change now t u → Type 0
-Continues now t _ (client.Begins _ s a b c) = ⊥
-Continues now t _ (client.Says _ o p) = SendsRight t o
-Continues now t u c = Unit {0}
+-- a request for blocks is for no more pages than this limit of runs allows
+abbrev pub IsRun : ℕ → Body → Type 0
+IsRun run (bodies.Allocate ino g p count) = count ≤ pred run + 1
+IsRun run b = Unit {0}
+
+-- so is a new request
+abbrev pub AsksRight : (run : ℕ) (st : Store) (s u : ClientSession) → SessionChange st s u → Type 0
+AsksRight run st s _ (AsksNew _ r now body cutting a c i) = IsRun run body
+AsksRight run st s u c = Unit {0}
+
+-- A change of the first two forms, under a limit of runs. It begins no session, sends nothing else, and
+-- asks for no longer run.
+abbrev pub Continues : (run : ℕ) (now : Stamp) (t u : Turn) → Change now t u → Type 0
+Continues run now t _ (client.Begins _ s a b c) = ⊥
+Continues run now t _ (client.Says _ o p) = SendsRight t o
+Continues run now t _ (client.Follows _ s u e g) = AsksRight run t.here.store s u g.how
+Continues run now t u c = Unit {0}
+
+-- How the limit of runs changes: it stays, is whole again, or is less than the blocks that the
+-- outstanding request asks for.
+pub data RunLimit (t : ThirdTurn) (b : Beside) : Type 0 where
+  SameRun : b.run ≡ t.beside.run → RunLimit t b
+  WholeRun : b.run ≡ RUN → RunLimit t b
+  FreeRun : (s : ClientSession) (q : Request) (ino : ℕ) (g : GrantNo) (p : PageNo) (count : ℕ) → session t ≡ Some s →
+      s.requests.asked ≡ Some q → q.body ≡ bodies.Allocate ino g p count → b.run < count → RunLimit t b
 
 -- One change, by a rule at a moment.
 pub data ThirdChange (now : Stamp) : ThirdTurn → ThirdTurn → Type 0 where
   -- one that the first two forms make too
-  Plainly : (t : ThirdTurn) (u : Turn) (c : Change now t.plain u) → Continues now t.plain u c → ThirdChange now t (with_plain u t)
+  Plainly : (t : ThirdTurn) (u : Turn) (c : Change now t.plain u) → Continues t.beside.run now t.plain u c → ThirdChange now t (with_plain u t)
   -- a word
   Says : (t : ThirdTurn) (o : ThirdOutput) → PlainWord o → ThirdChange now t (say t o)
   -- other leaves are pending
   Leaves : (t : ThirdTurn) (ls : List Leave) → ThirdChange now t (with_leaves ls t)
   -- other uses are owed, or runs have another limit, or the server was full at another time
-  IsBeside : (t : ThirdTurn) (b : Beside) → ThirdChange now t (with_beside b t)
+  IsBeside : (t : ThirdTurn) (b : Beside) → RunLimit t b → ThirdChange now t (with_beside b t)
   -- more or fewer changes wait for room
   WaitsForRoom : (t : ThirdTurn) (n : ℕ) → ThirdChange now t (with_room n t)
   -- a session begins with the limit of its locks, by a fresh welcome

@@ -7,3 +7,4 @@ pub mod Welcomes
 pub mod Demands
 pub mod Invariants
 pub mod DemandsSeen
+pub mod ShortRuns

@@ -5,6 +5,7 @@ ghost use Rattle.st_laws_third.specs.Invariants.{EveryClientFits};
 ghost use Rattle.st_laws_third.specs.Pairs.{ClientsStayPaired};
 ghost use Rattle.st_laws_third.specs.Rules.{RulesAreChanges};
 ghost use Rattle.st_laws_third.specs.Sessions.{ClientsStepOn};
+ghost use Rattle.st_laws_third.specs.ShortRuns.{EveryAllocationIsShort};
 ghost use Rattle.st_laws_third.specs.Welcomes.{EveryWelcomeIsFresh};
 
 /// With a head of form 1 or 2, a run by the definitions of every form is the run by those of the
@@ -74,4 +75,9 @@ pub fn every_run_answers_demands()
 /// for a file of which it has no lock, is answered as seen in the same step.
 pub fn every_demand_is_seen()
     ensures { EveryDemandIsSeen }
+{}
+
+/// In every run of the third form, runs are short: no request for blocks is for more than 64 pages.
+pub fn every_allocation_is_short()
+    ensures { EveryAllocationIsShort }
 {}
