@@ -17,9 +17,11 @@ mod Facts
 mod Folds
 mod Rules
 mod Stepping
+mod EventWalk
 pub mod Moves
 mod Told
 pub mod Sound
+mod HardEntries
 mod AllClients
 mod Welcomes
 mod Demands

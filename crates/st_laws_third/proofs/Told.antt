@@ -6,6 +6,7 @@ use Words.events
 use Words.nodes
 use Words.notes
 use Words.outputs
+use Words.Client.{ClientNode}
 use Words.ClientState.{ClientState}
 use Words.Events as ev
 use Words.Events.{WorldTurn, quiet}
@@ -31,7 +32,8 @@ use Rattle.st_third.specs.Events.{ThirdWorldTurn, unseen}
 use Rattle.st_third.specs.Limits.{is_third}
 use Rattle.st_third.specs.Server.{node_step, server_step}
 use Rattle.st_third.specs.State.{ClientBeside, ThirdClient, ThirdClientTurn}
-use Rattle.st_third.specs.World.{ThirdWorld, beside_of, receiver_of}
+use Rattle.st_third.specs.World.{ThirdWorld, beside_of}
+use Rattle.st_laws_third.proofs.EventWalk.{Client_step, EventLaw, Server_step, walk_of_event}
 
 -- What a client's word is observed as.
 pub data SeenOf (c : ClientId) : ThirdOutput → ThirdObservation → Type 0 where
@@ -243,135 +245,53 @@ marks_told w os f o h = let z = has_map every.plain_seen os o h in subst (Told w
 
 -- Events
 
-module _ (w : ThirdWorld) (f : is_third w.world.form ≡ true) where
-  -- a client takes an input
-  takes_told : (c : ClientId) (old site : WorldClient) → site_of w.world c ≡ Some old → site.node ≡ old.node → (input : ThirdInput) →
-      AllTold w (every.client_takes w c input site).seen
-  unfolding every.client_takes every.running_takes every.third_takes
-  takes_told c old site there e input = running site.node.running
-    where
-      by_beside : (b : Option ClientBeside) → beside_of w c ≡ b → AllTold w (every.third_takes w c input site b).seen
-      by_beside None q = none_told w
-      by_beside (Some b) q = λ o h.
-          let z = took_told w c site (client_step w.limits (every.third_client site b) (clock_of w.world (nodes.Client c)) input) o h in
-          ByClient c old b input z.0 o there q
-          (subst (λ (n : Rattle.st_rules.specs.Client.ClientNode).
-          Has z.0 (client_step w.limits (record { plain = n.state; beside = b }) (clock_of w.world (nodes.Client c)) input).out) e z.1) z.2
+-- what is observed in an event
+abbrev Tells : ThirdWorld → ThirdWorldTurn → Type 0
+Tells w sc = AllTold w sc.seen
 
-      by_form : (b : Bool) → b ≡ true → AllTold w (if b then every.third_takes w c input site (beside_of w c) else every.plain_takes w c input site).seen
-      by_form true q = by_beside (beside_of w c) refl
-      by_form false q = absurd cc
-
-      running : (b : Bool) → AllTold w (if b then every.running_takes w c input site else unseen w).seen
-      running true = by_form (is_third w.world.form) f
-      running false = none_told w
-
-  at_client_told : (c : ClientId) (input : ThirdInput) (site : Option WorldClient) → site_of w.world c ≡ site → AllTold w (every.at_client w c input site).seen
-  unfolding every.at_client
-  at_client_told c input None e = none_told w
-  at_client_told c input (Some site) e = takes_told c site site e refl input
-
-  asks_told : (c : ClientId) (ask : ℕ → ThirdInput) (site : Option WorldClient) → site_of w.world c ≡ site → AllTold w (every.asks_at w c ask site).seen
-  unfolding every.asks_at
-  asks_told c ask None e = none_told w
-  asks_told c ask (Some site) e = takes_told c site (ev.asked_once_more site) e refl (ask (site.asks + 1))
-
-  at_server_told : (s : ServerId) (input : ServerInput) (node : Option ServerNode) → node_of w.world s ≡ node → AllTold w (every.at_server w s input node).seen
-  unfolding every.at_server every.server_takes ev.server_took node_step
-  at_server_told s input None e = none_told w
-  at_server_told s input (Some node) e = go node.running
-    where
-      now : Stamp
-      now = clock_of w.world (nodes.Server s)
-
-      by : (y : Observation) → (Has y []) ⊎ (ServerAmong s (server_step w.world.form node.state now input).out y) → Told w (seen.Plain y)
-      by y (inl i) = absurd i
-      by y (inr x) = ByServer s node input x.0 y e x.1 x.2
-
-      go : (b : Bool) →
-          AllTold w
-          (every.as_plain w
-          (ev.server_took w.world s (if b then Ok (server.node_turn node (server_step w.world.form node.state now input)) else Err Crashed))).seen
-      go true = λ o h.
-          let t = server.node_turn node (server_step w.world.form node.state now input) in
-          let z = has_map every.plain_seen _ o h in
-          subst (Told w) (sym z.2) (by z.0 (server_words s t.out (quiet (ev.with_node s t.node w.world)) z.0 z.1))
-      go false = none_told w
-
-  ticks_told : (n : NodeId) → AllTold w (every.ticks w n).seen
-  unfolding every.ticks
-  ticks_told (nodes.Client c) = at_client_told c _ (site_of w.world c) refl
-  ticks_told (nodes.Server s) = at_server_told s _ (node_of w.world s) refl
-
-  delivers_told : (x : Option SentMessage) → AllTold w (every.delivers w x).seen
-  unfolding every.delivers every.delivers_to
-  delivers_told None = none_told w
-  delivers_told (Some x) = go (receiver_of w.world x)
-    where
-      go : (n : NodeId) → AllTold w (every.delivers_to w x.message n).seen
-      go (nodes.Client c) = at_client_told c _ (site_of w.world c) refl
-      go (nodes.Server s) = at_server_told s _ (node_of w.world s) refl
-
-  reports_told : (k : ℕ) (ok : Bool) (c : Option IssuedCommand) → AllTold w (every.tells w k ok c).seen
-  unfolding every.tells every.tells_client every.tells_site
-  reports_told k ok None = none_told w
-  reports_told k ok (Some c) = go (site_of w.world c.client) refl
-    where
-      by_instance : (site : WorldClient) → site_of w.world c.client ≡ Some site → (b : Bool) →
-          AllTold w (if b then every.client_takes w c.client (takes.Plain (ev.end_told w.world k ok c)) site else unseen w).seen
-      by_instance site e true = takes_told c.client site site e refl _
-      by_instance site e false = none_told w
-
-      go : (site : Option WorldClient) → site_of w.world c.client ≡ site → AllTold w (every.tells_client w k ok c site).seen
-      go None e = none_told w
-      go (Some site) e = by_instance site e (ev.is_same_instance c site)
-
--- a node that begins anew says nothing
-begins_quiet : (w : ThirdWorld) (n : NodeId) (sc : ThirdWorldTurn) → (every.begins w n sc).seen ≡ sc.seen
-unfolding every.begins every.node_begins every.client_begins every.server_begins
-begins_quiet w n sc = go (is_third w.world.form)
+server_told : (w : ThirdWorld) (s : ServerId) (node : ServerNode) (input : ServerInput) → node_of w.world s ≡ Some node →
+    Tells w (every.as_plain w (ev.server_took w.world s (Ok (Server_step w s node input))))
+unfolding ev.server_took
+server_told w s node input e o h =
+    let t = Server_step w s node input in
+    let z = has_map every.plain_seen _ o h in
+    subst (Told w) (sym z.2) (by z.0 (server_words s t.out (quiet (ev.with_node s t.node w.world)) z.0 z.1))
   where
-    client : (c : ClientId) (site : Option WorldClient) → (every.client_begins sc c site).seen ≡ sc.seen
-    client c None = refl
-    client c (Some site) = refl
+    by : (y : Observation) → (Has y []) ⊎ (ServerAmong s (Server_said w s node input) y) → Told w (seen.Plain y)
+    by y (inl i) = absurd i
+    by y (inr x) = ByServer s node input x.0 y e x.1 x.2
 
-    server_of : (s : ServerId) (node : Option ServerNode) → (every.server_begins sc s node).seen ≡ sc.seen
-    server_of s None = refl
-    server_of s (Some node) = refl
+client_told : (w : ThirdWorld) (c : ClientId) (old site : WorldClient) (b : ClientBeside) (input : ThirdInput) → site_of w.world c ≡ Some old →
+    site.node ≡ old.node → beside_of w c ≡ Some b → Tells w (every.client_took w c site (Client_step w c site b input))
+client_told w c old site b input there e q o h =
+    let z = took_told w c site (Client_step w c site b input) o h in
+    ByClient c old b input z.0 o there q
+    (subst (λ (n : ClientNode). Has z.0 (client_step w.limits (record { plain = n.state; beside = b }) (clock_of w.world (nodes.Client c)) input).out) e z.1) z.2
 
-    by_node : (n : NodeId) → (every.node_begins n sc).seen ≡ sc.seen
-    by_node (nodes.Client c) = client c (site_of sc.third.world c)
-    by_node (nodes.Server s) = server_of s (node_of sc.third.world s)
+-- another world with these nodes
+reported_told : (w : ThirdWorld) (k : ℕ) (ok : Bool) (o : ThirdObservation) → Told (every.with_report k ok w) o → Told w o
+reported_told w k ok _ (ByClient c site b input x o there q h s) = ByClient c site b input x o there q h s
+reported_told w k ok _ (ByServer s node input x o there h y) = ByServer s node input x o there h y
+reported_told w k ok _ (ByFate o i) = ByFate o i
 
-    go : (b : Bool) → (if b then every.node_begins n sc else sc).seen ≡ sc.seen
-    go true = by_node n
-    go false = refl
-
-crashes_told : (w : ThirdWorld) (n : NodeId) → AllTold w (every.as_plain w (ev.crashes w.world n)).seen
-unfolding ev.crashes ev.crashes_client ev.marks
-crashes_told w (nodes.Client c) = go (site_of w.world c)
-  where
-    go : (site : Option WorldClient) → AllTold w (every.as_plain w (ev.crashes_client w.world c site)).seen
-    go None = none_told w
-    go (Some site) = marks_told w _ (fates_all 1 _ _)
-crashes_told w (nodes.Server s) = none_told w
+told_law : EventLaw Tells
+unfolding ev.advances ev.effects ev.marks ev.crashes_client every.client_begins every.server_begins
+told_law =
+    record {
+      still = none_told;
+      takes = client_told;
+      serves = server_told;
+      loses = λ w k m e. none_told w;
+      cuts = λ w from to. none_told w;
+      heals = λ w from to. none_told w;
+      advances = λ w steps. marks_told w _ (fates_all 1 _ _);
+      effects = λ w k. marks_told w _ (fates_all 1 _ _);
+      reports = λ w k ok sc h o i. reported_told w k ok o (h o i);
+      client_crashes = λ w c site there. marks_told w _ (fates_all 1 _ _);
+      server_crashes = λ w s node there. none_told w;
+      client_starts = λ w c site there. none_told w;
+      server_starts = λ w s node there. none_told w;
+    }
 
 pub happens_told : (w : ThirdWorld) (e : ThirdEvent) → is_third w.world.form ≡ true → AllTold w (every.happens w e).seen
-unfolding every.happens every.plain_happens every.reports_of ev.happens ev.advances ev.effects ev.marks
-happens_told w (third.Leave c s) f = asks_told w f c _ (site_of w.world c) refl
-happens_told w (third.Plain (events.Tick n)) f = ticks_told w f n
-happens_told w (third.Plain (events.App c ask)) f = asks_told w f c _ (site_of w.world c) refl
-happens_told w (third.Plain (events.Deliver k)) f = delivers_told w f (message_of w.world k)
-happens_told w (third.Plain (events.Lose k)) f = none_told w
-happens_told w (third.Plain (events.Cut from to)) f = none_told w
-happens_told w (third.Plain (events.Heal from to)) f = none_told w
-happens_told w (third.Plain (events.Advance steps)) f = marks_told w _ (fates_all 1 _ _)
-happens_told w (third.Plain (events.Effect k)) f = marks_told w _ (fates_all 1 _ _)
-happens_told w (third.Plain (events.Report k ok)) f = λ o h. same o (reports_told (every.with_report k ok w) f k ok (issued_of w.world k) o h)
-  where
-    same : (o : ThirdObservation) → Told (every.with_report k ok w) o → Told w o
-    same _ (ByClient c site b input x o there q h s) = ByClient c site b input x o there q h s
-    same _ (ByServer s node input x o there h y) = ByServer s node input x o there h y
-    same _ (ByFate o i) = ByFate o i
-happens_told w (third.Plain (events.Crash n)) f = subst (AllTold w) (sym (begins_quiet w n _)) (crashes_told w n)
-happens_told w (third.Plain (events.Start n)) f = subst (AllTold w) (sym (begins_quiet w n _)) (none_told w)
+happens_told = walk_of_event Tells told_law

@@ -8,3 +8,4 @@ pub mod Demands
 pub mod Invariants
 pub mod DemandsSeen
 pub mod ShortRuns
+pub mod FirstPromises

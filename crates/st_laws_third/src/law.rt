@@ -1,6 +1,7 @@
 ghost use Rattle.st_laws_third.specs.Demands.{EveryDemandIsAnswered, EveryRunAnswersDemands};
 ghost use Rattle.st_laws_third.specs.DemandsSeen.{EveryDemandIsSeen};
 ghost use Rattle.st_laws_third.specs.FirstForms.{FirstHeadsStay, FirstRunsStay, FirstStepsStay};
+ghost use Rattle.st_laws_third.specs.FirstPromises.{EveryHardEntryStays};
 ghost use Rattle.st_laws_third.specs.Invariants.{EveryClientFits};
 ghost use Rattle.st_laws_third.specs.Pairs.{ClientsStayPaired};
 ghost use Rattle.st_laws_third.specs.Rules.{RulesAreChanges};
@@ -80,4 +81,10 @@ pub fn every_demand_is_seen()
 /// In every run of the third form, runs are short: no request for blocks is for more than 64 pages.
 pub fn every_allocation_is_short()
     ensures { EveryAllocationIsShort }
+{}
+
+/// Hard stays hard in every run of the third form, too: an entry that is hard before an event is
+/// hard after it.
+pub fn every_hard_entry_stays()
+    ensures { EveryHardEntryStays }
 {}

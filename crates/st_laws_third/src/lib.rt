@@ -6,6 +6,7 @@ mod law;
 
 pub use law::{
     clients_stay_paired, every_allocation_is_short, every_client_fits, every_demand_is_answered,
-    every_demand_is_seen, every_run_answers_demands, every_welcome_is_fresh, first_heads_stay,
-    first_runs_stay, first_steps_stay, third_clients_step_on, third_rules_are_changes,
+    every_demand_is_seen, every_hard_entry_stays, every_run_answers_demands,
+    every_welcome_is_fresh, first_heads_stay, first_runs_stay, first_steps_stay,
+    third_clients_step_on, third_rules_are_changes,
 };
