@@ -33,9 +33,10 @@ use Rattle.st_third.specs.Limits.{is_third, limited_node}
 use Rattle.st_third.specs.Server as serving
 use Rattle.st_third.specs.Server.{node_step}
 use Rattle.st_third.specs.State.{ClientBeside, ThirdClientTurn}
-use Rattle.st_third.specs.World.{ThirdWorld, beside_of, receiver_of}
+use Rattle.st_third.specs.World.{ThirdWorld, beside_of}
 use Rattle.st_laws_third.specs.Sessions.{AllFine, NoDemand, SessionFine, WordFine}
 use Rattle.st_laws_third.proofs.ClientWords.{client_fine}
+use Rattle.st_laws_third.proofs.EventWalk.{Client_step, EventLaw, Server_step, walk_of_event}
 use Rattle.st_laws_third.proofs.ServerWords as words
 use Rattle.st_laws_third.proofs.ServerWords.{Fine, KeptFine, Stamped, server_fine}
 use Rattle.st_laws_third.proofs.Sound.{Sound, apart}
@@ -183,193 +184,6 @@ with_server w v s old new there m k p f = record { mail = f; kept = λ n node e.
         k
     at n node e false b = m.kept n node (sym (others n (apart n s.0 b)) ∙ e)
 
-module _ (w : ThirdWorld) (so : Sound w) (m : Mailed w)
-    (asks : (n : ℕ) (site : WorldClient) → numbered w.world.clients n ≡ Some site → (a : Association) → Has a site.node.state.associations →
-    SessionFine a.session) where
-  -- a client takes an input
-  client_mails : (c : ClientId) (old site : WorldClient) → site_of w.world c ≡ Some old → site.node ≡ old.node → (input : ThirdInput) →
-      Mailed (every.client_takes w c input site).third
-  unfolding every.client_takes every.running_takes every.third_takes
-  client_mails c old site there e input = running site.node.running
-    where
-      b : (x : ClientBeside) × (beside_of w c ≡ Some x)
-      b = so.fits.there c.0 old there
-
-      it_takes : (o : Option ClientBeside) → beside_of w c ≡ o → Mailed (every.third_takes w c input site o).third
-      it_takes None q = mailed_same w w m refl refl
-      it_takes (Some x) q =
-          let t : ThirdClientTurn = client_step w.limits (every.third_client site x) (clock_of w.world (nodes.Client c)) input in
-          by_post w _ m (took_post w c site t
-          (subst (λ (s : plain.ClientNode). AllFine
-          (client_step w.limits (record { plain = s.state; beside = x }) (clock_of w.world (nodes.Client c)) input).out) (sym e)
-          (client_fine w.limits (record { plain = old.node.state; beside = x }) (clock_of w.world (nodes.Client c)) input (so.fits.pairs c.0 old x there q)
-          (so.fits.sites c.0 old there).fit (asks c.0 old there))))
-
-      by_form : (x : Bool) → x ≡ true → Mailed (if x then every.third_takes w c input site (beside_of w c) else every.plain_takes w c input site).third
-      by_form true q = it_takes (beside_of w c) refl
-      by_form false q = absurd (no q)
-        where
-          no : false ≡ true → ⊥
-          no q = cc
-
-      running : (x : Bool) → Mailed (if x then every.running_takes w c input site else unseen w).third
-      running true = by_form (is_third w.world.form) so.form
-      running false = mailed_same w w m refl refl
-
-  at_client_mails : (c : ClientId) (input : ThirdInput) (site : Option WorldClient) → site_of w.world c ≡ site → Mailed (every.at_client w c input site).third
-  unfolding every.at_client
-  at_client_mails c input None e = mailed_same w w m refl refl
-  at_client_mails c input (Some site) e = client_mails c site site e refl input
-
-  asks_mail : (c : ClientId) (ask : ℕ → ThirdInput) (site : Option WorldClient) → site_of w.world c ≡ site → Mailed (every.asks_at w c ask site).third
-  unfolding every.asks_at
-  asks_mail c ask None e = mailed_same w w m refl refl
-  asks_mail c ask (Some site) e = client_mails c site (ev.asked_once_more site) e refl (ask (site.asks + 1))
-
-  at_server_mails : (s : ServerId) (input : ServerInput) (node : Option ServerNode) → node_of w.world s ≡ node → Mailed (every.at_server w s input node).third
-  unfolding every.at_server every.server_takes ev.server_took node_step
-  at_server_mails s input None e = mailed_same w w m refl refl
-  at_server_mails s input (Some node) e = go node.running
-    where
-      now : Stamp
-      now = clock_of w.world (nodes.Server s)
-
-      x : Fine (serving.server_step w.world.form node.state now input)
-      x = server_fine w.world.form node.state now input (m.kept s.0 node e)
-
-      go : (b : Bool) →
-          Mailed
-          (every.as_plain w
-          (ev.server_took w.world s (if b then Ok (server.node_turn node (serving.server_step w.world.form node.state now input)) else Err Crashed))).third
-      go true =
-          let t = server.node_turn node (serving.server_step w.world.form node.state now input) in
-          let p = server_all_post s t.out (quiet (ev.with_node s t.node w.world)) x.said in
-          with_server w _ s node t.node e m x.kept p.servers (p.mail m.mail)
-      go false = mailed_same w _ m refl refl
-
-  ticks_mail : (n : NodeId) → Mailed (every.ticks w n).third
-  unfolding every.ticks
-  ticks_mail (nodes.Client c) = at_client_mails c _ (site_of w.world c) refl
-  ticks_mail (nodes.Server s) = at_server_mails s _ (node_of w.world s) refl
-
-  delivers_mail : (x : Option SentMessage) → Mailed (every.delivers w x).third
-  unfolding every.delivers every.delivers_to
-  delivers_mail None = mailed_same w w m refl refl
-  delivers_mail (Some x) = go (receiver_of w.world x)
-    where
-      go : (n : NodeId) → Mailed (every.delivers_to w x.message n).third
-      go (nodes.Client c) = at_client_mails c _ (site_of w.world c) refl
-      go (nodes.Server s) = at_server_mails s _ (node_of w.world s) refl
-
-  tells_mail : (k : ℕ) (ok : Bool) (c : Option IssuedCommand) → Mailed (every.tells w k ok c).third
-  unfolding every.tells every.tells_client every.tells_site
-  tells_mail k ok None = mailed_same w w m refl refl
-  tells_mail k ok (Some c) = go (site_of w.world c.client) refl
-    where
-      by_instance : (site : WorldClient) → site_of w.world c.client ≡ Some site → (b : Bool) →
-          Mailed (if b then every.client_takes w c.client (takes.Plain (ev.end_told w.world k ok c)) site else unseen w).third
-      by_instance site e true = client_mails c.client site site e refl _
-      by_instance site e false = mailed_same w w m refl refl
-
-      go : (site : Option WorldClient) → site_of w.world c.client ≡ site → Mailed (every.tells_client w k ok c site).third
-      go None e = mailed_same w w m refl refl
-      go (Some site) e = by_instance site e (ev.is_same_instance c site)
-
--- Crashes and starts.
-
-module _ (w : ThirdWorld) (m : Mailed w) where
-  -- a server begins again, and has its limits
-  server_begins : (s : ServerId) (old new : ServerNode) → node_of w.world s ≡ Some old → KeptFine new.state.sessions →
-      Mailed (every.node_begins (nodes.Server s) (every.as_plain w (quiet (ev.with_node s new w.world)))).third
-  unfolding every.node_begins every.server_begins
-  server_begins s old new there k = again (node_of u.world s) refl
-    where
-      u : ThirdWorld
-      u = (every.as_plain w (quiet (ev.with_node s new w.world))).third
-
-      mu : Mailed u
-      mu = with_server w u s old new there m k refl m.mail
-
-      again : (o : Option ServerNode) → node_of u.world s ≡ o → Mailed (every.server_begins (every.as_plain w (quiet (ev.with_node s new w.world))) s o).third
-      again None q = mu
-      again (Some x) q = with_server u _ s x (limited_node w.limits x) q mu (mu.kept s.0 x q) refl mu.mail
-
-  crashes_mail : (n : NodeId) → is_third w.world.form ≡ true → Mailed (every.plain_happens w (events.Crash n)).third
-  unfolding every.plain_happens every.begins every.node_begins every.client_begins every.server_begins ev.happens ev.crashes ev.crashes_client ev.crashes_server
-      ev.marks server.crash
-  crashes_mail n f =
-      subst
-      (λ b. Mailed
-      (if b then every.node_begins n (every.as_plain w (ev.happens w.world (events.Crash n))) else every.as_plain w
-      (ev.happens w.world (events.Crash n))).third) (sym f) (by_node n)
-    where
-      client : (c : ClientId) (site : Option WorldClient) →
-          Mailed (every.node_begins (nodes.Client c) (every.as_plain w (ev.crashes_client w.world c site))).third
-      client c None = again (site_of w.world c)
-        where
-          again : (o : Option WorldClient) → Mailed (every.client_begins (every.as_plain w (quiet w.world)) c o).third
-          again None = mailed_same w _ m refl refl
-          again (Some x) = mailed_same w _ m refl refl
-      client c (Some site) = again (site_of (every.as_plain w (ev.crashes_client w.world c (Some site))).third.world c)
-        where
-          again : (o : Option WorldClient) → Mailed (every.client_begins (every.as_plain w (ev.crashes_client w.world c (Some site))) c o).third
-          again None = mailed_same w _ m refl refl
-          again (Some x) = mailed_same w _ m refl refl
-
-      server_of : (s : ServerId) (node : Option ServerNode) → node_of w.world s ≡ node →
-          Mailed (every.node_begins (nodes.Server s) (every.as_plain w (quiet (ev.crashes_server w.world s node)))).third
-      server_of s None e = again (node_of w.world s) e
-        where
-          again : (o : Option ServerNode) → o ≡ None → Mailed (every.server_begins (every.as_plain w (quiet w.world)) s o).third
-          again None q = mailed_same w _ m refl refl
-          again (Some x) q = absurd (no q)
-            where
-              no : ◌≡◌ {A = Option ServerNode} (Some x) None → ⊥
-              no q = cc
-      server_of s (Some node) e = server_begins s node (server.crash_node node) e (λ y h. absurd h)
-
-      by_node : (n : NodeId) → Mailed (every.node_begins n (every.as_plain w (ev.happens w.world (events.Crash n)))).third
-      by_node (nodes.Client c) = client c (site_of w.world c)
-      by_node (nodes.Server s) = server_of s (node_of w.world s) refl
-
-  starts_mail : (n : NodeId) → is_third w.world.form ≡ true → Mailed (every.plain_happens w (events.Start n)).third
-  unfolding every.plain_happens every.begins every.node_begins every.client_begins every.server_begins ev.happens ev.starts ev.starts_client ev.starts_server
-      server.start server.begin_epoch
-  starts_mail n f =
-      subst
-      (λ b. Mailed
-      (if b then every.node_begins n (every.as_plain w (ev.happens w.world (events.Start n))) else every.as_plain w
-      (ev.happens w.world (events.Start n))).third) (sym f) (by_node n)
-    where
-      client : (c : ClientId) (site : Option WorldClient) →
-          Mailed (every.node_begins (nodes.Client c) (every.as_plain w (quiet (ev.starts_client w.world c site)))).third
-      client c None = again (site_of w.world c)
-        where
-          again : (o : Option WorldClient) → Mailed (every.client_begins (every.as_plain w (quiet w.world)) c o).third
-          again None = mailed_same w _ m refl refl
-          again (Some x) = mailed_same w _ m refl refl
-      client c (Some site) = again (site_of (every.as_plain w (quiet (ev.starts_client w.world c (Some site)))).third.world c)
-        where
-          again : (o : Option WorldClient) → Mailed (every.client_begins (every.as_plain w (quiet (ev.starts_client w.world c (Some site)))) c o).third
-          again None = mailed_same w _ m refl refl
-          again (Some x) = mailed_same w _ m refl refl
-
-      server_of : (s : ServerId) (node : Option ServerNode) → node_of w.world s ≡ node →
-          Mailed (every.node_begins (nodes.Server s) (every.as_plain w (quiet (ev.starts_server w.world s node)))).third
-      server_of s None e = again (node_of w.world s) e
-        where
-          again : (o : Option ServerNode) → o ≡ None → Mailed (every.server_begins (every.as_plain w (quiet w.world)) s o).third
-          again None q = mailed_same w _ m refl refl
-          again (Some x) q = absurd (no q)
-            where
-              no : ◌≡◌ {A = Option ServerNode} (Some x) None → ⊥
-              no q = cc
-      server_of s (Some node) e = server_begins s node (server.start_node node (clock_of w.world (nodes.Server s))) e (λ y h. absurd h)
-
-      by_node : (n : NodeId) → Mailed (every.node_begins n (every.as_plain w (ev.happens w.world (events.Start n)))).third
-      by_node (nodes.Client c) = client c (site_of w.world c)
-      by_node (nodes.Server s) = server_of s (node_of w.world s) refl
-
 -- A message that is lost.
 
 has_set : {A : Type 0} (xs : List A) (n : ℕ) (y x : A) → Has x (set xs n y) → (x ≡ y) ⊎ (Has x xs)
@@ -383,33 +197,76 @@ has_set (z ∷ xs) (suc n) y x (inr h) = go (has_set xs n y x h)
     go (inl e) = inl e
     go (inr i) = inr (inr i)
 
-loses_mail : (w : ThirdWorld) (k : ℕ) (x : Option SentMessage) → message_of w.world k ≡ x → Mailed w →
-    Mailed (every.as_plain w (quiet (ev.loses_message w.world k x))).third
-unfolding ev.loses_message
-loses_mail w k None e m = mailed_same w _ m refl refl
-loses_mail w k (Some y) e m =
+-- a message is lost
+loses_mail : (w : ThirdWorld) (k : ℕ) (y : SentMessage) → message_of w.world k ≡ Some y → Mailed w →
+    Mailed (every.as_plain w (quiet (ev.with_lost k y w.world))).third
+loses_mail w k y e m =
     record { mail = λ x h. go x (has_set w.world.net.messages (pred k) (record y { lost = true }) x h); kept = m.kept }
   where
     go : (x : SentMessage) → (x ≡ record y { lost = true }) ⊎ (Has x w.world.net.messages) → Stamped x.message.header.stamp x.message.body
     go x (inl q) = subst (λ (z : SentMessage). Stamped z.message.header.stamp z.message.body) (sym q) (m.mail y (numbered_has w.world.net.messages k y e))
     go x (inr h) = m.mail x h
 
-pub mails : (w : ThirdWorld) (e : ThirdEvent) → Sound w → Mailed w →
-    ((n : ℕ) (site : WorldClient) → numbered w.world.clients n ≡ Some site → (a : Association) → Has a site.node.state.associations → SessionFine a.session) →
-    Mailed (every.happens w e).third
-unfolding every.happens every.plain_happens every.reports_of ev.happens ev.advances ev.effects ev.marks
-mails w (third.Leave c s) so m f = asks_mail w so m f c _ (site_of w.world c) refl
-mails w (third.Plain (events.Tick n)) so m f = ticks_mail w so m f n
-mails w (third.Plain (events.App c ask)) so m f = asks_mail w so m f c _ (site_of w.world c) refl
-mails w (third.Plain (events.Deliver k)) so m f = delivers_mail w so m f (message_of w.world k)
-mails w (third.Plain (events.Lose k)) so m f = loses_mail w k (message_of w.world k) refl m
-mails w (third.Plain (events.Cut from to)) so m f = mailed_same w _ m refl refl
-mails w (third.Plain (events.Heal from to)) so m f = mailed_same w _ m refl refl
-mails w (third.Plain (events.Advance steps)) so m f = mailed_same w _ m refl refl
-mails w (third.Plain (events.Effect k)) so m f = mailed_same w _ m refl refl
-mails w (third.Plain (events.Report k ok)) so m f =
-    let v : ThirdWorld = every.with_report k ok w in
-    let same : Sound v = record { fits = record { sites = so.fits.sites; there = so.fits.there; pairs = so.fits.pairs }; form = so.form } in
-    tells_mail v same (record { mail = m.mail; kept = m.kept }) f k ok (issued_of w.world k)
-mails w (third.Plain (events.Crash n)) so m f = crashes_mail w m n so.form
-mails w (third.Plain (events.Start n)) so m f = starts_mail w m n so.form
+-- no client asks a demand
+abbrev pub AsksFine : ThirdWorld → Type 0
+AsksFine w =
+    (n : ℕ) (site : WorldClient) → numbered w.world.clients n ≡ Some site → (a : Association) → Has a site.node.state.associations → SessionFine a.session
+
+-- a client takes an input
+takes_mail : (w : ThirdWorld) (c : ClientId) (old site : WorldClient) (b : ClientBeside) (input : ThirdInput) → site_of w.world c ≡ Some old →
+    site.node ≡ old.node → beside_of w c ≡ Some b → Sound w → Mailed w → AsksFine w → Mailed (every.client_took w c site (Client_step w c site b input)).third
+takes_mail w c old site b input there e q so m asks =
+    by_post w _ m (took_post w c site (Client_step w c site b input)
+    (subst (λ (s : plain.ClientNode). AllFine
+    (client_step w.limits (record { plain = s.state; beside = b }) (clock_of w.world (nodes.Client c)) input).out) (sym e)
+    (client_fine w.limits (record { plain = old.node.state; beside = b }) (clock_of w.world (nodes.Client c)) input (so.fits.pairs c.0 old b there q)
+    (so.fits.sites c.0 old there).fit (asks c.0 old there))))
+
+-- a server does
+serves_mail : (w : ThirdWorld) (s : ServerId) (node : ServerNode) (input : ServerInput) → node_of w.world s ≡ Some node → Mailed w →
+    Mailed (every.as_plain w (ev.server_took w.world s (Ok (Server_step w s node input)))).third
+unfolding ev.server_took
+serves_mail w s node input e m =
+    let t = Server_step w s node input in
+    let x : Fine (serving.server_step w.world.form node.state (clock_of w.world (nodes.Server s)) input) =
+    server_fine w.world.form node.state (clock_of w.world (nodes.Server s)) input (m.kept s.0 node e) in
+    let p = server_all_post s t.out (quiet (ev.with_node s t.node w.world)) x.said in
+    with_server w _ s node t.node e m x.kept p.servers (p.mail m.mail)
+
+-- a server begins again, and has its limits
+server_begins : (w : ThirdWorld) (s : ServerId) (old new : ServerNode) → node_of w.world s ≡ Some old → KeptFine new.state.sessions → Mailed w →
+    Mailed (every.server_begins (every.as_plain w (quiet (ev.with_node s new w.world))) s (Some new)).third
+unfolding every.server_begins
+server_begins w s old new there k m =
+    let u : ThirdWorld = (every.as_plain w (quiet (ev.with_node s new w.world))).third in
+    let mu : Mailed u = with_server w u s old new there m k refl m.mail in
+    let own : node_of u.world s ≡ Some new = numbered_own w.world.servers s.0 new old there in
+    with_server u _ s new (limited_node w.limits new) own mu (mu.kept s.0 new own) refl mu.mail
+
+abbrev Mails : ThirdWorld → ThirdWorldTurn → Type 0
+Mails w sc = Sound w → Mailed w → AsksFine w → Mailed sc.third
+
+mail_law : EventLaw Mails
+unfolding ev.advances ev.effects ev.marks ev.crashes_client ev.crashes_server ev.starts_client ev.starts_server every.client_begins server.crash server.start
+    server.begin_epoch
+mail_law =
+    record {
+      still = λ w so m f. mailed_same w w m refl refl;
+      takes = takes_mail;
+      serves = λ w s node input e so m f. serves_mail w s node input e m;
+      loses = λ w k y e so m f. loses_mail w k y e m;
+      cuts = λ w from to so m f. mailed_same w _ m refl refl;
+      heals = λ w from to so m f. mailed_same w _ m refl refl;
+      advances = λ w steps so m f. mailed_same w _ m refl refl;
+      effects = λ w k so m f. mailed_same w _ m refl refl;
+      reports =
+          λ w k ok sc h so m f. h (record { fits = record { sites = so.fits.sites; there = so.fits.there; pairs = so.fits.pairs }; form = so.form })
+          (record { mail = m.mail; kept = m.kept }) f;
+      client_crashes = λ w c site e so m f. mailed_same w _ m refl refl;
+      server_crashes = λ w s node e so m f. server_begins w s node (server.crash_node node) e (λ y h. absurd h) m;
+      client_starts = λ w c site e so m f. mailed_same w _ m refl refl;
+      server_starts = λ w s node e so m f. server_begins w s node (server.start_node node (clock_of w.world (nodes.Server s))) e (λ y h. absurd h) m;
+    }
+
+pub mails : (w : ThirdWorld) (e : ThirdEvent) → Sound w → Mailed w → AsksFine w → Mailed (every.happens w e).third
+mails w e so = walk_of_event Mails mail_law w e so.form so

@@ -28,7 +28,8 @@ use Rattle.st_third.specs.Events.{ThirdWorldTurn, unseen}
 use Rattle.st_third.specs.Limits.{is_third, limited_client, limited_site}
 use Rattle.st_third.specs.Server.{node_step}
 use Rattle.st_third.specs.State.{ClientBeside, ThirdClientTurn, fresh_beside_client}
-use Rattle.st_third.specs.World.{ThirdWorld, beside_of, receiver_of}
+use Rattle.st_third.specs.World.{ThirdWorld, beside_of}
+use Rattle.st_laws_third.proofs.EventWalk.{Client_step, EventLaw, Server_step, walk_of_event}
 
 -- what no output changes: the clients, the clocks, the settings and the form
 pub record Core : Type 0 where
@@ -205,75 +206,18 @@ module _ (w : ThirdWorld) (c : ClientId) (old : WorldClient) (there : site_of w.
       (λ n h. ap (λ xs. numbered xs n) q ∙ numbered_other w.besides c.0 n d low h) b
 
   -- a client takes an input
-  takes_it : (site : WorldClient) → site.node ≡ old.node → (input : ThirdInput) → is_third w.world.form ≡ true →
-      Moved w (every.client_takes w c input site).third
-  unfolding every.client_takes every.running_takes every.third_takes
-  takes_it site e input f = running site.node.running
-    where
-      by_beside : (b : Option ClientBeside) → beside_of w c ≡ b → Moved w (every.third_takes w c input site b).third
-      by_beside None q = rests w w refl refl
-      by_beside (Some b) q =
-          let t : ThirdClientTurn = client_step w.limits (every.third_client site b) (clock_of w.world (nodes.Client c)) input in
-          let h = took_core w c site t in
-          let z : site.node.state ≡ old.node.state = ap (λ (x : ClientNode). x.state) e in
-          changes _ (ev.at_node (record site.node { state = t.client.plain }) site) t.client.beside
-          (record { config = ap (λ x. x.plain.config) h; form = ap (λ x. x.plain.form) h; limits = took_limits w c site t })
-          (ap (λ x. x.plain.clients) h) (ap (λ x. x.besides) h)
-          (Stepped b input q (ap (λ x. x.plain.clocks) h)
-          (ap (λ s. (client_step w.limits (record { plain = s; beside = b }) (clock_of w.world (nodes.Client c)) input).client.plain) z)
-          (ap (λ s. (client_step w.limits (record { plain = s; beside = b }) (clock_of w.world (nodes.Client c)) input).client.beside) z))
-
-      by_form : (b : Bool) → b ≡ true → Moved w (if b then every.third_takes w c input site (beside_of w c) else every.plain_takes w c input site).third
-      by_form true q = by_beside (beside_of w c) refl
-      by_form false q = absurd cc
-
-      running : (b : Bool) → Moved w (if b then every.running_takes w c input site else unseen w).third
-      running true = by_form (is_third w.world.form) f
-      running false = rests w w refl refl
-
-module _ (w : ThirdWorld) (f : is_third w.world.form ≡ true) where
-  at_client_moves : (c : ClientId) (input : ThirdInput) (site : Option WorldClient) → site_of w.world c ≡ site → Moved w (every.at_client w c input site).third
-  unfolding every.at_client
-  at_client_moves c input None e = rests w w refl refl
-  at_client_moves c input (Some site) e = takes_it w c site e site refl input f
-
-  asks_move : (c : ClientId) (ask : ℕ → ThirdInput) (site : Option WorldClient) → site_of w.world c ≡ site → Moved w (every.asks_at w c ask site).third
-  unfolding every.asks_at
-  asks_move c ask None e = rests w w refl refl
-  asks_move c ask (Some site) e = takes_it w c site e (ev.asked_once_more site) refl (ask (site.asks + 1)) f
-
-  at_server_moves : (s : ServerId) (input : ServerInput) (node : Option ServerNode) → Moved w (every.at_server w s input node).third
-  unfolding every.at_server every.server_takes
-  at_server_moves s input None = rests w w refl refl
-  at_server_moves s input (Some node) = rests w _ refl (took_server w s (node_step w.world.form node (clock_of w.world (nodes.Server s)) input))
-
-  ticks_move : (n : NodeId) → Moved w (every.ticks w n).third
-  unfolding every.ticks
-  ticks_move (nodes.Client c) = at_client_moves c _ (site_of w.world c) refl
-  ticks_move (nodes.Server s) = at_server_moves s _ (node_of w.world s)
-
-  delivers_move : (m : Option SentMessage) → Moved w (every.delivers w m).third
-  unfolding every.delivers every.delivers_to
-  delivers_move None = rests w w refl refl
-  delivers_move (Some m) = go (receiver_of w.world m)
-    where
-      go : (n : NodeId) → Moved w (every.delivers_to w m.message n).third
-      go (nodes.Client c) = at_client_moves c _ (site_of w.world c) refl
-      go (nodes.Server s) = at_server_moves s _ (node_of w.world s)
-
-  tells_move : (k : ℕ) (ok : Bool) (c : Option IssuedCommand) → Moved w (every.tells w k ok c).third
-  unfolding every.tells every.tells_client every.tells_site
-  tells_move k ok None = rests w w refl refl
-  tells_move k ok (Some c) = go (site_of w.world c.client) refl
-    where
-      by_instance : (site : WorldClient) → site_of w.world c.client ≡ Some site → (b : Bool) →
-          Moved w (if b then every.client_takes w c.client (takes.Plain (ev.end_told w.world k ok c)) site else unseen w).third
-      by_instance site e true = takes_it w c.client site e site refl _ f
-      by_instance site e false = rests w w refl refl
-
-      go : (site : Option WorldClient) → site_of w.world c.client ≡ site → Moved w (every.tells_client w k ok c site).third
-      go None e = rests w w refl refl
-      go (Some site) e = by_instance site e (ev.is_same_instance c site)
+  takes_moves : (site : WorldClient) (b : ClientBeside) (input : ThirdInput) → site.node ≡ old.node → beside_of w c ≡ Some b →
+      Moved w (every.client_took w c site (Client_step w c site b input)).third
+  takes_moves site b input e q =
+      let t : ThirdClientTurn = Client_step w c site b input in
+      let h = took_core w c site t in
+      let z : site.node.state ≡ old.node.state = ap (λ (x : ClientNode). x.state) e in
+      changes _ (ev.at_node (record site.node { state = t.client.plain }) site) t.client.beside
+      (record { config = ap (λ x. x.plain.config) h; form = ap (λ x. x.plain.form) h; limits = took_limits w c site t })
+      (ap (λ x. x.plain.clients) h) (ap (λ x. x.besides) h)
+      (Stepped b input q (ap (λ x. x.plain.clocks) h)
+      (ap (λ s. (client_step w.limits (record { plain = s; beside = b }) (clock_of w.world (nodes.Client c)) input).client.plain) z)
+      (ap (λ s. (client_step w.limits (record { plain = s; beside = b }) (clock_of w.world (nodes.Client c)) input).client.beside) z))
 
 -- Crashes and starts.
 
@@ -289,78 +233,6 @@ module _ (w : ThirdWorld) (c : ClientId) (old mid new : WorldClient) (d : Client
       (λ n h. ap (λ xs. numbered xs n) p ∙ numbered_other (with_numbered c.0 mid w.world.clients) c.0 n new l h ∙ numbered_other w.world.clients c.0 n mid l h)
       (λ x e. ap (λ xs. numbered xs c.0) q ∙ numbered_own w.besides c.0 d x e)
       (λ n h. ap (λ xs. numbered xs n) q ∙ numbered_other w.besides c.0 n d l h) b
-
-crashes_move : (w : ThirdWorld) (n : NodeId) → is_third w.world.form ≡ true → Moved w (every.plain_happens w (events.Crash n)).third
-unfolding every.plain_happens every.begins every.node_begins every.client_begins every.server_begins ev.happens ev.crashes ev.crashes_client ev.crashes_server
-    ev.marks plain.crash
-crashes_move w n f = by_form (is_third w.world.form) f n
-  where
-    client : (c : ClientId) (site : Option WorldClient) → site_of w.world c ≡ site →
-        Moved w (every.node_begins (nodes.Client c) (every.as_plain w (ev.crashes_client w.world c site))).third
-    client c None e =
-        subst (λ o. Moved w (every.client_begins (every.as_plain w (quiet w.world)) c o).third) (sym e) (rests w w refl refl)
-    client c (Some site) e =
-        let mid : WorldClient = ev.stopped_site site in
-        let sc : ThirdWorldTurn = every.as_plain w (ev.crashes_client w.world c (Some site)) in
-        let own : site_of sc.third.world c ≡ Some mid = numbered_own w.world.clients c.0 mid site e in
-        subst (λ o. Moved w (every.client_begins sc c o).third) (sym own)
-        (twice w c site mid (limited_site w.limits mid) (fresh_beside_client mid.node.state) e _ (record { config = refl; form = refl; limits = refl }) refl
-        refl (Crashed refl refl))
-
-    server_of : (s : ServerId) (node : Option ServerNode) → node_of w.world s ≡ node →
-        Moved w (every.node_begins (nodes.Server s) (every.as_plain w (quiet (ev.crashes_server w.world s node)))).third
-    server_of s None e = subst (λ o. Moved w (every.server_begins (every.as_plain w (quiet w.world)) s o).third) (sym e) (rests w w refl refl)
-    server_of s (Some node) e = again (node_of (every.as_plain w (quiet (ev.crashes_server w.world s (Some node)))).third.world s)
-      where
-        again : (o : Option ServerNode) → Moved w (every.server_begins (every.as_plain w (quiet (ev.crashes_server w.world s (Some node)))) s o).third
-        again None = rests w _ refl refl
-        again (Some x) = rests w _ refl refl
-
-    by_node : (n : NodeId) → Moved w (every.node_begins n (every.as_plain w (ev.happens w.world (events.Crash n)))).third
-    by_node (nodes.Client c) = client c (site_of w.world c) refl
-    by_node (nodes.Server s) = server_of s (node_of w.world s) refl
-
-    by_form : (b : Bool) → b ≡ true → (n : NodeId) →
-        Moved w (if b then every.node_begins n (every.as_plain w (ev.happens w.world (events.Crash n))) else every.as_plain w
-        (ev.happens w.world (events.Crash n))).third
-    by_form true q n = by_node n
-    by_form false q n = absurd cc
-
-starts_move : (w : ThirdWorld) (n : NodeId) → is_third w.world.form ≡ true → Moved w (every.plain_happens w (events.Start n)).third
-unfolding every.plain_happens every.begins every.node_begins every.client_begins every.server_begins ev.happens ev.starts ev.starts_client ev.starts_server
-    plain.start
-starts_move w n f = by_form (is_third w.world.form) f n
-  where
-    client : (c : ClientId) (site : Option WorldClient) → site_of w.world c ≡ site →
-        Moved w (every.node_begins (nodes.Client c) (every.as_plain w (quiet (ev.starts_client w.world c site)))).third
-    client c None e =
-        subst (λ o. Moved w (every.client_begins (every.as_plain w (quiet w.world)) c o).third) (sym e) (rests w w refl refl)
-    client c (Some site) e =
-        let mid : WorldClient = ev.started_site site in
-        let sc : ThirdWorldTurn = every.as_plain w (quiet (ev.starts_client w.world c (Some site))) in
-        let own : site_of sc.third.world c ≡ Some mid = numbered_own w.world.clients c.0 mid site e in
-        subst (λ o. Moved w (every.client_begins sc c o).third) (sym own)
-        (twice w c site mid (limited_site w.limits mid) (fresh_beside_client mid.node.state) e _ (record { config = refl; form = refl; limits = refl }) refl
-        refl (Started refl refl))
-
-    server_of : (s : ServerId) (node : Option ServerNode) → node_of w.world s ≡ node →
-        Moved w (every.node_begins (nodes.Server s) (every.as_plain w (quiet (ev.starts_server w.world s node)))).third
-    server_of s None e = subst (λ o. Moved w (every.server_begins (every.as_plain w (quiet w.world)) s o).third) (sym e) (rests w w refl refl)
-    server_of s (Some node) e = again (node_of (every.as_plain w (quiet (ev.starts_server w.world s (Some node)))).third.world s)
-      where
-        again : (o : Option ServerNode) → Moved w (every.server_begins (every.as_plain w (quiet (ev.starts_server w.world s (Some node)))) s o).third
-        again None = rests w _ refl refl
-        again (Some x) = rests w _ refl refl
-
-    by_node : (n : NodeId) → Moved w (every.node_begins n (every.as_plain w (ev.happens w.world (events.Start n)))).third
-    by_node (nodes.Client c) = client c (site_of w.world c) refl
-    by_node (nodes.Server s) = server_of s (node_of w.world s) refl
-
-    by_form : (b : Bool) → b ≡ true → (n : NodeId) →
-        Moved w (if b then every.node_begins n (every.as_plain w (ev.happens w.world (events.Start n))) else every.as_plain w
-        (ev.happens w.world (events.Start n))).third
-    by_form true q n = by_node n
-    by_form false q n = absurd cc
 
 -- what an event does to the clients of a world that differs elsewhere
 pub elsewhere : (w u v : ThirdWorld) → third_core u ≡ third_core w → u.limits ≡ w.limits → Moved u v → Moved w v
@@ -385,25 +257,36 @@ elsewhere w u v h l (Changes c old new d there k own others x y b) =
     go (Crashed z e) = Crashed (z ∙ ap (λ m. limited_client m (plain.crash old.node.state)) l) e
     go (Started z e) = Started (z ∙ ap (λ m. limited_client m (plain.start old.node.state)) l) e
 
-loses_move : (w : ThirdWorld) (k : ℕ) (m : Option SentMessage) → core (ev.loses_message w.world k m) ≡ core w.world
-unfolding ev.loses_message
-loses_move w k None = refl
-loses_move w k (Some m) = refl
+-- What an event does to the clients.
+
+abbrev MovesTo : ThirdWorld → ThirdWorldTurn → Type 0
+MovesTo w sc = Moved w sc.third
+
+moves_law : EventLaw MovesTo
+unfolding ev.advances ev.effects ev.marks ev.crashes_client ev.crashes_server ev.starts_client ev.starts_server every.client_begins every.server_begins plain.crash
+    plain.start
+moves_law =
+    record {
+      still = λ w. rests w w refl refl;
+      takes = λ w c old site b input there e q. takes_moves w c old there site b input e q;
+      serves = λ w s node input there. rests w _ refl (took_server w s (Ok (Server_step w s node input)));
+      loses = λ w k m e. rests w _ refl refl;
+      cuts = λ w from to. rests w _ refl refl;
+      heals = λ w from to. rests w _ refl refl;
+      advances = λ w steps. Rests refl (record { config = refl; form = refl; limits = refl }) refl;
+      effects = λ w k. rests w _ refl refl;
+      reports = λ w k ok sc h. elsewhere w (every.with_report k ok w) sc.third refl refl h;
+      client_crashes =
+          λ w c site e. let mid : WorldClient = ev.stopped_site site in
+          twice w c site mid (limited_site w.limits mid) (fresh_beside_client mid.node.state) e _ (record { config = refl; form = refl; limits = refl }) refl
+          refl (Crashed refl refl);
+      server_crashes = λ w s node e. rests w _ refl refl;
+      client_starts =
+          λ w c site e. let mid : WorldClient = ev.started_site site in
+          twice w c site mid (limited_site w.limits mid) (fresh_beside_client mid.node.state) e _ (record { config = refl; form = refl; limits = refl }) refl
+          refl (Started refl refl);
+      server_starts = λ w s node e. rests w _ refl refl;
+    }
 
 pub moves : (w : ThirdWorld) (e : ThirdEvent) → is_third w.world.form ≡ true → Moved w (every.happens w e).third
-unfolding every.happens every.plain_happens every.reports_of ev.happens ev.advances ev.effects ev.marks
-moves w (third.Leave c s) f = asks_move w f c _ (site_of w.world c) refl
-moves w (third.Plain (events.Tick n)) f = ticks_move w f n
-moves w (third.Plain (events.App c ask)) f = asks_move w f c _ (site_of w.world c) refl
-moves w (third.Plain (events.Deliver k)) f = delivers_move w f (message_of w.world k)
-moves w (third.Plain (events.Lose k)) f =
-    let h = loses_move w k (message_of w.world k) in
-    Rests (ap (λ x. x.clients) h) (record { config = ap (λ x. x.config) h; form = ap (λ x. x.form) h; limits = refl }) refl
-moves w (third.Plain (events.Cut from to)) f = rests w _ refl refl
-moves w (third.Plain (events.Heal from to)) f = rests w _ refl refl
-moves w (third.Plain (events.Advance steps)) f = Rests refl (record { config = refl; form = refl; limits = refl }) refl
-moves w (third.Plain (events.Effect k)) f = rests w _ refl refl
-moves w (third.Plain (events.Report k ok)) f =
-    elsewhere w (every.with_report k ok w) _ refl refl (tells_move (every.with_report k ok w) f k ok (issued_of w.world k))
-moves w (third.Plain (events.Crash n)) f = crashes_move w n f
-moves w (third.Plain (events.Start n)) f = starts_move w n f
+moves = walk_of_event MovesTo moves_law
