@@ -1,6 +1,6 @@
 -- What holds of each association of every client, with what is beside it, in a world of the third form: at its start, and after each event.
 use Rattle.st_lemmas.proofs.Words
-use Words.{◌≡◌, ◌==◌, ℕ, Bool, true, false, List, [], ◌∷◌, length, map, option_map, Option, Some, None, refl, sym, ap, ◌∙◌, subst, inl, inr}
+use Words.{◌≡◌, ◌==◌, ℕ, Bool, true, false, List, [], ◌∷◌, map, option_map, Option, Some, None, refl, sym, ap, ◌∙◌, subst, inl, inr}
 use Words.{eqb-true, ClientId, Config, Stamp}
 use Words.nodes
 use Words.Client as plain

@@ -1,7 +1,6 @@
 -- A client of the third form sends no demand.
 use Rattle.st_lemmas.proofs.Words
-use Words.{◌≡◌, ℕ, Bool, Option, Stamp, Config, refl}
-use Words.outputs
+use Words.{ℕ, Bool, Stamp, Config, refl}
 use Words.Client as plain
 use Words.ClientState.{Association, Turn}
 use Words.Lists.{Has}

@@ -1,11 +1,9 @@
 -- What an event does in a world of the third form, walked once: what holds in each case holds of every event.
 use Rattle.st_lemmas.proofs.Words
-use Words.{◌≡◌, ◌+◌, ℕ, Bool, true, false, List, Option, Some, None, Result, Ok, Err, refl, sym, subst, if◌then◌else◌}
+use Words.{◌≡◌, ◌+◌, ℕ, Bool, true, false, List, Option, Some, None, Ok, Err, refl, sym, subst, if◌then◌else◌}
 use Words.{ClientId, IssuedCommand, NodeId, SentMessage, ServerId, ServerInput, Stamp}
 use Words.events
 use Words.nodes
-use Words.Client as plain
-use Words.Client.{ClientNode}
 use Words.Events as ev
 use Words.Events.{quiet}
 use Words.Numbers.{numbered_own}

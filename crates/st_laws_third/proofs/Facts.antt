@@ -27,8 +27,8 @@ use Rattle.st_third.specs.GiveBack.{demanded}
 use Rattle.st_third.specs.Limits.{limited_session}
 use Rattle.st_third.specs.State.{ThirdTurn, all_said, plain_output, session}
 use Rattle.st_third.specs.UsedOnce.{reduced}
-use Rattle.st_laws_third.specs.Changes.{ThirdChange, ThirdChanges, Continues, Still, Then, Plainly, Says, Leaves, IsBeside, WaitsForRoom, Begins, GivesBack}
-use Rattle.st_laws_third.specs.Changes.{Reduces, with_plain}
+use Rattle.st_laws_third.specs.Changes.{ThirdChange, ThirdChanges, Bounds, Continues, Still, Then, Plainly, Says, Leaves, IsBeside, WaitsForRoom, Begins, GivesBack}
+use Rattle.st_laws_third.specs.Changes.{Reduces, bounds, with_plain}
 use Rattle.st_laws_third.specs.Changes.{PlainWord, Sends, SendsRight, Greets, Sees, Asks}
 use Rattle.st_laws_third.specs.Sessions.{AllFine, Dates, NoDemand, RequestFine, SessionFine, WordFine}
 
@@ -100,21 +100,21 @@ next_both now t u v a b =
 
 -- A change of the first two forms.
 
-continues_dates : (run : ℕ) (now : Stamp) (t u : Turn) (c : client.Change now t u) → Continues run now t u c → Dates t.config now t.here.session u.here.session
+continues_dates : (within : Bounds) (now : Stamp) (t u : Turn) (c : client.Change now t u) → Continues within now t u c → Dates t.config now t.here.session u.here.session
 unfolding passes.submit_read passes.submit_write passes.submit_command
-continues_dates run now t _ (client.Says _ o p) n = dates_same t.config now t.here.session
-continues_dates run now t _ (client.Operates _ os) n = dates_same t.config now t.here.session
-continues_dates run now t _ (client.Answers _ os ops a) n = dates_same t.config now t.here.session
-continues_dates run now t _ (client.Greets _ g) n = dates_same t.config now t.here.session
-continues_dates run now t _ (client.TellsLost _ lost) n = dates_same t.config now t.here.session
-continues_dates run now t _ (client.Begins _ s a b c) n = absurd n
-continues_dates run now t _ (client.Follows _ s u e g) n = subst (λ z. Dates t.config now z (Some u)) (sym e) (inl g.date)
-continues_dates run now t _ (client.Learns _ e u h) n = dates_same t.config now t.here.session
-continues_dates run now t _ (client.Forgets _ ino p i) n = dates_same t.config now t.here.session
-continues_dates run now t _ (client.Caches _ clean) n = dates_same t.config now t.here.session
-continues_dates run now t _ (client.Writes _ s f p bytes x sv own m h i) n = dates_same t.config now t.here.session
-continues_dates run now t _ (client.Reads _ ino p m i clean) n = dates_same t.config now t.here.session
-continues_dates run now t _ (client.Submits _ s ino p d m e i k w) n = dates_same t.config now t.here.session
+continues_dates within now t _ (client.Says _ o p) n = dates_same t.config now t.here.session
+continues_dates within now t _ (client.Operates _ os) n = dates_same t.config now t.here.session
+continues_dates within now t _ (client.Answers _ os ops a) n = dates_same t.config now t.here.session
+continues_dates within now t _ (client.Greets _ g) n = dates_same t.config now t.here.session
+continues_dates within now t _ (client.TellsLost _ lost) n = dates_same t.config now t.here.session
+continues_dates within now t _ (client.Begins _ s a b c) n = absurd n
+continues_dates within now t _ (client.Follows _ s u e g) n = subst (λ z. Dates t.config now z (Some u)) (sym e) (inl g.date)
+continues_dates within now t _ (client.Learns _ e u h) n = dates_same t.config now t.here.session
+continues_dates within now t _ (client.Forgets _ ino p i) n = dates_same t.config now t.here.session
+continues_dates within now t _ (client.Caches _ clean) n = dates_same t.config now t.here.session
+continues_dates within now t _ (client.Writes _ s f p bytes x sv own m h i) n = dates_same t.config now t.here.session
+continues_dates within now t _ (client.Reads _ ino p m i clean) n = dates_same t.config now t.here.session
+continues_dates within now t _ (client.Submits _ s ino p d m e i k w) n = dates_same t.config now t.here.session
 
 plain_said : (t : ThirdTurn) (u : Turn) (more : List Output) → u.out ≡ t.plain.out ++ more → all_said (with_plain u t) ≡ all_said t ++ map plain_output more
 plain_said t u more e =
@@ -149,26 +149,26 @@ said_fine t (outputs.Submit number at what) s f = tt
 said_fine t (outputs.Answer op a) s f = tt
 said_fine t (outputs.Note n) s f = tt
 
-spoken : (run : ℕ) (now : Stamp) (t u : Turn) (c : client.Change now t u) → Spoken t u (Continues run now t u c)
+spoken : (within : Bounds) (now : Stamp) (t u : Turn) (c : client.Change now t u) → Spoken t u (Continues within now t u c)
 unfolding passes.submit_read passes.submit_write passes.submit_command
-spoken run now t _ (client.Says _ o p) = one_word t _ _ o refl (λ k. k)
-spoken run now t _ (client.Operates _ os) = silent t _ _ refl
-spoken run now t _ (client.Answers _ os ops a) =
+spoken within now t _ (client.Says _ o p) = one_word t _ _ o refl (λ k. k)
+spoken within now t _ (client.Operates _ os) = silent t _ _ refl
+spoken within now t _ (client.Answers _ os ops a) =
     record {
       more = map (answer_to a) ops;
       out = refl;
       right = λ k o h. let z = has_map (answer_to a) ops o h in subst (SendsRight t) (sym z.2) tt;
     }
-spoken run now t _ (client.Greets _ g) = silent t _ _ refl
-spoken run now t _ (client.TellsLost _ lost) = silent t _ _ refl
-spoken run now t _ (client.Begins _ s a b c) = silent t _ _ refl
-spoken run now t _ (client.Follows _ s u e g) = silent t _ _ refl
-spoken run now t _ (client.Learns _ e u h) = silent t _ _ refl
-spoken run now t _ (client.Forgets _ ino p i) = silent t _ _ refl
-spoken run now t _ (client.Caches _ clean) = silent t _ _ refl
-spoken run now t _ (client.Writes _ s f p bytes x sv own m h i) = one_word t _ _ (outputs.Note x) refl (λ k. tt)
-spoken run now t _ (client.Reads _ ino p m i clean) = one_word t _ _ _ refl (λ k. tt)
-spoken run now t _ (client.Submits _ s ino p d m e i k w) = one_word t _ _ _ refl (λ k. tt)
+spoken within now t _ (client.Greets _ g) = silent t _ _ refl
+spoken within now t _ (client.TellsLost _ lost) = silent t _ _ refl
+spoken within now t _ (client.Begins _ s a b c) = silent t _ _ refl
+spoken within now t _ (client.Follows _ s u e g) = silent t _ _ refl
+spoken within now t _ (client.Learns _ e u h) = silent t _ _ refl
+spoken within now t _ (client.Forgets _ ino p i) = silent t _ _ refl
+spoken within now t _ (client.Caches _ clean) = silent t _ _ refl
+spoken within now t _ (client.Writes _ s f p bytes x sv own m h i) = one_word t _ _ (outputs.Note x) refl (λ k. tt)
+spoken within now t _ (client.Reads _ ino p m i clean) = one_word t _ _ _ refl (λ k. tt)
+spoken within now t _ (client.Submits _ s ino p d m e i k w) = one_word t _ _ _ refl (λ k. tt)
 
 -- what may be asked isn't a demand
 may_fine : (s : ClientSession) (cutting : Option ℕ) (b : Body) → MayAsk s cutting b → NoDemand b
@@ -185,37 +185,37 @@ session_fine st s _ (NewEpoch _ epoch n) f = tt
 session_fine st s _ (AsksNew _ r now body cutting a c i) f = may_fine r cutting body i.may
 session_fine st s _ (AsksAgain _ now q e) f = subst RequestFine e f
 
-asks_fine : (run : ℕ) (now : Stamp) (t u : Turn) (c : client.Change now t u) → Continues run now t u c → SessionFine t.here.session → SessionFine u.here.session
+asks_fine : (within : Bounds) (now : Stamp) (t u : Turn) (c : client.Change now t u) → Continues within now t u c → SessionFine t.here.session → SessionFine u.here.session
 unfolding passes.submit_read passes.submit_write passes.submit_command
-asks_fine run now t _ (client.Says _ o p) n f = f
-asks_fine run now t _ (client.Operates _ os) n f = f
-asks_fine run now t _ (client.Answers _ os ops a) n f = f
-asks_fine run now t _ (client.Greets _ g) n f = f
-asks_fine run now t _ (client.TellsLost _ lost) n f = f
-asks_fine run now t _ (client.Begins _ s a b c) n f = absurd n
-asks_fine run now t _ (client.Follows _ s u e g) n f = session_fine t.here.store s u g.how (subst SessionFine e f)
-asks_fine run now t _ (client.Learns _ e u h) n f = f
-asks_fine run now t _ (client.Forgets _ ino p i) n f = f
-asks_fine run now t _ (client.Caches _ clean) n f = f
-asks_fine run now t _ (client.Writes _ s g p bytes x sv own m h i) n f = f
-asks_fine run now t _ (client.Reads _ ino p m i clean) n f = f
-asks_fine run now t _ (client.Submits _ s ino p d m e i k w) n f = f
+asks_fine within now t _ (client.Says _ o p) n f = f
+asks_fine within now t _ (client.Operates _ os) n f = f
+asks_fine within now t _ (client.Answers _ os ops a) n f = f
+asks_fine within now t _ (client.Greets _ g) n f = f
+asks_fine within now t _ (client.TellsLost _ lost) n f = f
+asks_fine within now t _ (client.Begins _ s a b c) n f = absurd n
+asks_fine within now t _ (client.Follows _ s u e g) n f = session_fine t.here.store s u g.how (subst SessionFine e f)
+asks_fine within now t _ (client.Learns _ e u h) n f = f
+asks_fine within now t _ (client.Forgets _ ino p i) n f = f
+asks_fine within now t _ (client.Caches _ clean) n f = f
+asks_fine within now t _ (client.Writes _ s g p bytes x sv own m h i) n f = f
+asks_fine within now t _ (client.Reads _ ino p m i clean) n f = f
+asks_fine within now t _ (client.Submits _ s ino p d m e i k w) n f = f
 
-plain_next : (run : ℕ) (now : Stamp) (t : ThirdTurn) (u : Turn) (c : client.Change now t.plain u) → Continues run now t.plain u c →
+plain_next : (within : Bounds) (now : Stamp) (t : ThirdTurn) (u : Turn) (c : client.Change now t.plain u) → Continues within now t.plain u c →
     ThirdNext now t (with_plain u t)
-plain_next run now t u c k =
+plain_next within now t u c k =
     let n = change_next now t.plain u c in
-    let w = spoken run now t.plain u c in
+    let w = spoken within now t.plain u c in
     record {
       config = n.config;
       limits = refl;
       server = n.server;
       life = n.life;
-      dates = continues_dates run now t.plain u c k;
+      dates = continues_dates within now t.plain u c k;
       fit = n.fit;
       more = map plain_output w.more;
       said = plain_said t u w.more w.out;
-      asks = asks_fine run now t.plain u c k;
+      asks = asks_fine within now t.plain u c k;
       quiet = λ f o h. let z = has_map plain_output w.more o h in subst WordFine (sym z.2) (said_fine t.plain z.0 (w.right k z.0 z.1) f);
     }
 
@@ -257,7 +257,7 @@ reduced_next now t s d ino e i = held (locks.lock_of s.locks d.ino)
         forgets : (to : Mode) → ThirdNext now t (with_plain (with_store (passes.forgotten_at ino to t.plain.here.store) t.plain) t)
         forgets modes.None =
             let c : client.Change now t.plain _ = client.Forgets t.plain ino (page_no 0) i in
-            plain_next 0 now t _ c tt
+            plain_next (bounds t) now t _ c tt
         forgets modes.S = next_still now t
         forgets modes.X = next_still now t
 
@@ -286,7 +286,7 @@ said_word o w x (inr i) = absurd i
 
 pub change_third : (now : Stamp) (t u : ThirdTurn) → ThirdChange now t u → ThirdNext now t u
 unfolding Rattle.st_third.specs.State.say Rattle.st_third.specs.State.plainly
-change_third now t _ (Plainly _ u c p) = plain_next t.beside.run now t u c p
+change_third now t _ (Plainly _ u c p) = plain_next (bounds t) now t u c p
 change_third now t _ (Says _ o w) =
     record {
       config = refl;
@@ -396,7 +396,7 @@ word_right t (says.Ended s life end) w = w
 pub change_says : (now : Stamp) (t u : ThirdTurn) → ThirdChange now t u → SaysMore t u
 unfolding Rattle.st_third.specs.State.say Rattle.st_third.specs.State.plainly
 change_says now t _ (Plainly _ u c p) =
-    let w = spoken t.beside.run now t.plain u c in
+    let w = spoken (bounds t) now t.plain u c in
     record {
       more = map plain_output w.more;
       said = plain_said t u w.more w.out;

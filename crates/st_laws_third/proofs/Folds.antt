@@ -1,13 +1,13 @@
 -- A step of a client of the third form as a fold: what holds at each of its servers, and is kept by each change, holds after the step; and each word is one
 -- that changes say.
 use Rattle.st_lemmas.proofs.Words
-use Words.{◌≡◌, ◌⊎◌, ℕ, ◌==◌, Bool, true, false, List, [], ◌∷◌, ◌++◌, Option, Some, None, length, map, refl, sym, ap, ◌∙◌, subst, inl, inr, arith, if◌then◌else◌}
+use Words.{◌≡◌, ◌⊎◌, ℕ, ◌==◌, Bool, true, false, List, [], ◌∷◌, ◌++◌, Option, Some, None, length, map, refl, sym, ◌∙◌, subst, inl, inr, arith, if◌then◌else◌}
 use Words.{AppAnswer, Body, ClientInput, Config, DirtyPage, Header, Life, Output, ServerId, Stamp}
 use Words.answers
 use Words.notes
 use Words.outputs
 use Words.Client as plain
-use Words.ClientState.{Association, ClientSession, Turn, is_at}
+use Words.ClientState.{Association, Turn, is_at}
 use Words.Lists.{Has}
 use Words.Tables.{has_append}
 use Rattle.st_rules.specs.declared.client.ClientInput.TheVariants as inputs
@@ -24,7 +24,6 @@ use Rattle.st_third.specs.Limits.{limited_association}
 use Rattle.st_third.specs.Replies.{receive, receive_at}
 use Rattle.st_third.specs.State.{Beside, ThirdClient, ThirdClientTurn, ThirdTurn, all_said, at_each, at_these, enter, fresh_beside, leave, only_at, plain_output, plainly, session, third_turn}
 use Rattle.st_laws_third.specs.Changes.{ThirdChange, ThirdChanges, ThirdFinishes, ThirdLeaves, ThirdLoses, ThirdPasses, HasLeft, IsLost, Lasts, Stays, Still, Then, with_plain}
-use Rattle.st_laws_third.specs.Pairs.{IsPaired}
 use Rattle.st_laws_third.proofs.Chains.{left_has, right_has}
 use Rattle.st_laws_third.proofs.Facts.{WordRight, change_says, change_third}
 use Rattle.st_laws_third.proofs.Finishing.{finishes, takes}

@@ -11,7 +11,7 @@ use Rattle.std.specs.Option.{option_or}
 use Rattle.st_laws_steps.proofs.Client.Calm as calm
 use Rattle.st_third.specs.GiveBack as giving
 use Rattle.st_third.specs.State.{ThirdTurn, plainly, session}
-use Rattle.st_laws_third.specs.Changes.{ThirdChanges, GivesBack, IsBeside, SameRun, Still}
+use Rattle.st_laws_third.specs.Changes.{ThirdChanges, Bounds, GivesBack, IsBeside, SameRun, Still}
 use Rattle.st_laws_third.proofs.Chains.{Old, both, by_rule, either, old_calm, old_still, one}
 
 -- The lock that is chosen is one of those.
@@ -53,7 +53,7 @@ refusal_keeps s t o q =
     (ap (λ (a : Association). a.session) (refused_here t.plain (file_of o.ask)))
 
 module _ {now : Stamp} where
-  refuses : {run : ℕ} (u : Turn) (file : Option ℕ) → Old run now u (replies.refuse_file u answers.TooManyLocks file)
+  refuses : {within : Bounds} (u : Turn) (file : Option ℕ) → Old within now u (replies.refuse_file u answers.TooManyLocks file)
   unfolding replies.refuse_file
   refuses u None = old_still u
   refuses u (Some ino) = old_calm (calm.changes_by_each_answer (replies.works_on u ino) answers.TooManyLocks u tt)

@@ -1,37 +1,26 @@
 -- In every run of the third form, an entry that is hard stays hard.
 use Rattle.st_lemmas.proofs.Words
-use Words.{◌≡◌, ℕ, Bool, true, false, List, [], ◌∷◌, Option, Some, None, Result, Ok, Err, refl, sym, ap, ◌∙◌, subst, if◌then◌else◌}
-use Words.{Carried, ClientId, IssuedCommand, LeaseLife, LogEntry, NodeId, Note, Output, Phase, SentMessage, ServerId, ServerInput, Stamp, StepRefusal}
+use Words.{List, [], ◌∷◌, Option, Some, None, sym, subst}
+use Words.{Carried, ClientId, IssuedCommand, LeaseLife, LogEntry, Output, ServerId}
 use Words.causes
-use Words.events
-use Words.nodes
 use Words.notes
 use Words.outputs
-use Words.phases
 use Words.ClientState.{ClientState}
 use Words.Events as ev
 use Words.Events.{WorldTurn, quiet}
 use Words.FlatLog as log
 use Words.Safety.{HardStaysHard}
-use Words.Server as server
 use Words.Server.{ServerNode}
-use Words.World.{WorldClient, all_servers, clock_of, issued_of, message_of, node_of, site_of}
+use Words.World.{WorldClient, all_servers, issued_of, site_of}
 use Words.Worlds.{flushes_log}
 use Rattle.st_lemmas.proofs.Marks.{Kept_hard, hard_drop, hard_harden, hard_more, hard_same, hard_then}
-use Rattle.st_third.specs.declared.event.ThirdEvent.{ThirdEvent}
-use Rattle.st_third.specs.declared.event.ThirdEvent.TheVariants as third
-use Rattle.st_third.specs.declared.event.ThirdInput.{ThirdInput}
-use Rattle.st_third.specs.declared.event.ThirdInput.TheVariants as takes
 use Rattle.st_third.specs.declared.output.ThirdOutput.{ThirdOutput}
 use Rattle.st_third.specs.declared.output.ThirdOutput.TheVariants as says
-use Rattle.st_third.specs.Client.{client_step}
 use Rattle.st_third.specs.Events as every
 use Rattle.st_third.specs.Events.{ThirdWorldTurn, unseen}
-use Rattle.st_third.specs.Limits.{is_third}
-use Rattle.st_third.specs.Server.{node_step}
-use Rattle.st_third.specs.State.{ClientBeside, ThirdClientTurn}
+use Rattle.st_third.specs.State.{ThirdClientTurn}
 use Rattle.st_third.specs.Steps as steps
-use Rattle.st_third.specs.World.{ThirdWorld, beside_of, receiver_of, third_world}
+use Rattle.st_third.specs.World.{ThirdWorld, third_world}
 use Rattle.st_laws_third.specs.FirstPromises.{EveryHardEntryStays, Plainly}
 use Rattle.st_laws_third.proofs.EventWalk.{Client_step, EventLaw, Server_step, walk_of_event}
 use Rattle.st_laws_third.proofs.Sound.{kept_throughout, sound_first}

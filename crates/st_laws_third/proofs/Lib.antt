@@ -17,6 +17,7 @@ mod Facts
 mod Folds
 mod Rules
 mod Stepping
+mod ExpiredClients
 mod EventWalk
 pub mod Moves
 mod Told
@@ -31,3 +32,6 @@ mod ClientWords
 mod Mail
 mod DemandsSeen
 mod ShortRuns
+mod FewLocks
+mod FewDirty
+mod Expiry

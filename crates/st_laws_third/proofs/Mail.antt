@@ -1,9 +1,8 @@
 -- What an event does to the messages of a world of the third form, and to its servers: every demand has stamp 0.
 use Rattle.st_lemmas.proofs.Words
-use Words.{◌≡◌, ◌≢◌, ◌⊎◌, ◌+◌, ℕ, zero, suc, pred, set, ◌==◌, Bool, true, false, List, [], ◌∷◌, ◌++◌, Option, Some, None, Ok, Err, refl, sym, ap, ◌∙◌, subst, inl, inr, if◌then◌else◌, eqb-true}
-use Words.{Body, ClientId, IssuedCommand, NodeId, Note, Output, Phase, SentMessage, ServerId, ServerInput, Stamp}
+use Words.{◌≡◌, ◌≢◌, ◌⊎◌, ℕ, zero, suc, pred, set, ◌==◌, Bool, true, false, List, [], ◌∷◌, ◌++◌, Option, Some, None, Ok, refl, sym, ap, ◌∙◌, subst, inl, inr, eqb-true}
+use Words.{Body, ClientId, Note, Output, Phase, SentMessage, ServerId, ServerInput, Stamp}
 use Words.bodies
-use Words.events
 use Words.nodes
 use Words.notes
 use Words.outputs
@@ -18,18 +17,15 @@ use Words.Numbers.{numbered_below, numbered_has, numbered_other, numbered_own}
 use Words.Server as server
 use Words.Server.{ServerNode}
 use Words.Tables.{has_append}
-use Words.World.{World, WorldClient, all_servers, clock_of, issued_of, message_of, node_of, numbered, site_of, with_numbered}
-use Rattle.st_rules.specs.declared.node.StepRefusal.TheVariants.{Crashed}
+use Words.World.{World, WorldClient, all_servers, clock_of, message_of, node_of, numbered, site_of, with_numbered}
 use Rattle.st_third.specs.declared.event.ThirdEvent.{ThirdEvent}
-use Rattle.st_third.specs.declared.event.ThirdEvent.TheVariants as third
 use Rattle.st_third.specs.declared.event.ThirdInput.{ThirdInput}
-use Rattle.st_third.specs.declared.event.ThirdInput.TheVariants as takes
 use Rattle.st_third.specs.declared.output.ThirdOutput.{ThirdOutput}
 use Rattle.st_third.specs.declared.output.ThirdOutput.TheVariants as says
 use Rattle.st_third.specs.Client.{client_step}
 use Rattle.st_third.specs.Events as every
 use Rattle.st_third.specs.Events.{ThirdWorldTurn, unseen}
-use Rattle.st_third.specs.Limits.{is_third, limited_node}
+use Rattle.st_third.specs.Limits.{limited_node}
 use Rattle.st_third.specs.Server as serving
 use Rattle.st_third.specs.Server.{node_step}
 use Rattle.st_third.specs.State.{ClientBeside, ThirdClientTurn}

@@ -1,8 +1,7 @@
 -- What an event does to the clients of a world of the third form: it leaves them, or one of them changes.
 use Rattle.st_lemmas.proofs.Words
-use Words.{◌≡◌, ◌≢◌, ◌≤◌, ℕ, ◌+◌, Bool, true, false, List, [], ◌∷◌, Option, Some, None, Result, Ok, Err, refl, sym, ap, ◌∙◌, subst, unwrap_or, if◌then◌else◌}
-use Words.{ClientId, Config, IssuedCommand, NodeId, Note, Output, Phase, SentMessage, ServerId, ServerInput, Stamp, StepRefusal}
-use Words.events
+use Words.{◌≡◌, ◌≢◌, ◌≤◌, ℕ, true, List, [], ◌∷◌, Option, Some, None, Result, Ok, Err, refl, sym, ap, ◌∙◌, unwrap_or}
+use Words.{ClientId, Config, Note, Output, Phase, ServerId, Stamp, StepRefusal}
 use Words.nodes
 use Words.notes
 use Words.outputs
@@ -13,20 +12,16 @@ use Words.ClientState.{ClientState}
 use Words.Events as ev
 use Words.Events.{WorldTurn, quiet}
 use Words.Server as server
-use Words.Server.{ServerNode}
-use Words.World.{World, WorldClient, all_servers, clock_of, issued_of, message_of, node_of, numbered, site_of, stamp, with_numbered}
+use Words.World.{World, WorldClient, all_servers, clock_of, numbered, site_of, stamp, with_numbered}
 use Words.Numbers.{numbered_below, numbered_other, numbered_own}
 use Rattle.st_third.specs.declared.event.ThirdEvent.{ThirdEvent}
-use Rattle.st_third.specs.declared.event.ThirdEvent.TheVariants as third
 use Rattle.st_third.specs.declared.event.ThirdInput.{ThirdInput}
-use Rattle.st_third.specs.declared.event.ThirdInput.TheVariants as takes
 use Rattle.st_third.specs.declared.output.ThirdOutput.{ThirdOutput}
 use Rattle.st_third.specs.declared.output.ThirdOutput.TheVariants as says
 use Rattle.st_third.specs.Client.{client_step}
 use Rattle.st_third.specs.Events as every
 use Rattle.st_third.specs.Events.{ThirdWorldTurn, unseen}
 use Rattle.st_third.specs.Limits.{is_third, limited_client, limited_site}
-use Rattle.st_third.specs.Server.{node_step}
 use Rattle.st_third.specs.State.{ClientBeside, ThirdClientTurn, fresh_beside_client}
 use Rattle.st_third.specs.World.{ThirdWorld, beside_of}
 use Rattle.st_laws_third.proofs.EventWalk.{Client_step, EventLaw, Server_step, walk_of_event}

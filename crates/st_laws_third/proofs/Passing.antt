@@ -1,15 +1,17 @@
 -- The passes of a client of the third form are lists of changes.
 use Rattle.st_lemmas.proofs.Words
 use Words.{◌≡◌, ◌≤◌, ◌+◌, ℕ, zero, suc, pred, Bool, true, false, ◌&&◌, not, ◌==◌, List, [], ◌∷◌, Option, Some, None, find, refl, ap, sym, subst, ◌∙◌, inl, arith, is_some, if◌then◌else◌, eqb-true, eq-eqb}
-use Words.{Ask, Body, Operation, Release, Request, ServerId, Stamp}
+use Words.{Ask, Body, FileId, Operation, PageNo, Release, Request, ServerId, Stamp}
+use Words.answers
 use Words.asks
 use Words.bodies
 use Words.Client as cl
 use Words.ClientLease as lease
 use Words.ClientLocks as locks
+use Words.ClientPages as pages
 use Words.ClientPages.{Store}
 use Words.ClientPasses as passes
-use Words.ClientState.{ClientSession, Turn, asking, file_of, is_busy, is_file, is_of, is_serving, reasserts, send, server_of, with_operations, with_session}
+use Words.ClientState.{ClientSession, Turn, asking, file_of, is_busy, is_file, is_of, is_sent, is_serving, keep, reasserts, send, server_of, with_operations, with_session}
 use Words.Keys.{page_no}
 use Words.Lookups.{or_false, some_is}
 use Words.Tables.{and_both, and_true, not_true}
@@ -30,8 +32,8 @@ use Rattle.st_third.specs.Runs as runs
 use Rattle.st_third.specs.State as state
 use Rattle.st_third.specs.State.{ThirdTurn, here, is_active, session}
 use Rattle.st_third.specs.UsedOnce as used
-use Rattle.st_laws_third.specs.Changes.{ThirdChanges, ThirdPasses, Asks, IsRun, Still}
-use Rattle.st_laws_third.proofs.Chains.{Old, RequestRun, SessionRun, both, by_rule, either, old_asks, old_both, old_either, old_one, old_pass, old_still}
+use Rattle.st_laws_third.specs.Changes.{ThirdChanges, ThirdPasses, Asks, Bounds, IsRun, Still, bounds}
+use Rattle.st_laws_third.proofs.Chains.{Old, RequestRun, SessionRun, both, by_rule, either, old_asks, old_both, old_either, old_one, old_pass, old_still, version}
 use Rattle.st_laws_third.proofs.GivingBack.{gives}
 use Rattle.st_laws_third.proofs.Leaving.{greets, leaves, reduces_all, serves_leave}
 use Rattle.st_laws_third.proofs.Rooms.{keeps, serves, writes}
@@ -46,6 +48,23 @@ open_uncut os t s o ino e h r f c =
     not_both (is_file ino r.cutting) (ap (is_file ino) c ∙ eq-eqb ino ino refl)
     (ap (λ (z : ClientSession). is_file ino z.cutting) (some_is (sym f ∙ e))
     ∙ (or_false (is_file ino s.cutting) _ (not_true (is_busy os (here t) s ino) (and_true (not (is_busy os (here t) s ino)) _ h).0)).0)
+
+-- neither changes a page
+quiesce_version : (t : Turn) (o : Operation) → version (passes.quiesce t o) ≤ version t
+unfolding passes.quiesce
+quiesce_version t o = go (is_sent o)
+  where
+    go : (b : Bool) → version (if b then keep o t else passes.answer o answers.Quiesced t) ≤ version t
+    go true = omega arith
+    go false = omega arith
+
+sync_version : (t : Turn) (o : Operation) (f : FileId) → version (passes.sync t o f) ≤ version t
+unfolding passes.sync
+sync_version t o f = go (pages.is_hard t.here.store f.ino)
+  where
+    go : (b : Bool) → version (if b then passes.answer o answers.Hard t else keep o t) ≤ version t
+    go true = omega arith
+    go false = omega arith
 
 module _ (now : Stamp) where
   abbrev C : ThirdTurn → ThirdTurn → Type 0
@@ -71,14 +90,14 @@ module _ (now : Stamp) where
       go None e = keeps t o
       go (Some s) e =
           either (is_serving t.plain.config s now) t _ _ (λ sv. serves_open os ls t s o e sv own)
-          (λ sv. by_rule t (third.quiesced o) (old_pass (changes_by_quiesce [] now t.plain o)))
+          (λ sv. by_rule t (third.quiesced o) (old_pass (changes_by_quiesce [] now t.plain o) (quiesce_version t.plain o)))
 
   operates : (os : List Operation) (ls : List Leave) (t : ThirdTurn) (o : Operation) → C t (third.operate os ls t now o)
   unfolding third.operate third.operate_on
   operates os ls t o = either (is_of (here t) o) t _ _ (λ e. on o.ask refl (server_is _ _ e)) (λ e. keeps t o)
     where
       on : (ask : Ask) → o.ask ≡ ask → server_of o.ask ≡ t.plain.here.server → C t (third.operate_on os ls t now o ask)
-      on (asks.Sync f) e own = by_rule t (third.synced o (asks.Sync f)) (old_pass (changes_by_sync (o ∷ []) now t.plain o f (inl refl) e own))
+      on (asks.Sync f) e own = by_rule t (third.synced o (asks.Sync f)) (old_pass (changes_by_sync (o ∷ []) now t.plain o f (inl refl) e own) (sync_version t.plain o f))
       on ask e own = operates_by os ls t o own
 
   operates_each : (os : List Operation) (ls : List Leave) (ns : List ℕ) (t : ThirdTurn) → C t (third.operate_numbers os ls now ns t)
@@ -203,49 +222,56 @@ module _ (now : Stamp) where
       go None w (Some x) a = a
       go (Some x) w a k = w
 
-  -- What is outstanding after the requests.
-  module _ (run : ℕ) (t : Turn) (s : ClientSession) (e : t.here.session ≡ Some s) where
-    sent_within : (u : Turn) (r : ClientSession) (body : Body) (cutting : Option ℕ) → IsRun run body →
-        SessionRun run (passes.ask u r now body cutting).here.session
+  -- What requests leave: what is outstanding is within the limit, and no page is changed.
+  module _ (within : Bounds) (t : Turn) (s : ClientSession) (e : t.here.session ≡ Some s) where
+    record Leaves (u : Turn) : Type 0 where
+      asked : SessionRun within.run u.here.session
+      version : version u ≤ version t
+
+    sent_within : (u : Turn) (r : ClientSession) (body : Body) (cutting : Option ℕ) → version u ≤ version t → IsRun within.run body →
+        Leaves (passes.ask u r now body cutting)
     unfolding passes.ask send asking
-    sent_within u r body cutting h = h
+    sent_within u r body cutting l h = record { asked = h; version = l }
 
-    none_within : s.requests.asked ≡ None → SessionRun run t.here.session
-    none_within n = subst (SessionRun run) (sym e) (subst (RequestRun run) (sym n) tt)
+    none_within : s.requests.asked ≡ None → Leaves t
+    none_within n = record { asked = subst (SessionRun within.run) (sym e) (subst (RequestRun within.run) (sym n) tt); version = omega arith }
 
-    alive_within : s.requests.asked ≡ None → SessionRun run (passes.keep_alive t s now).here.session
+    alive_within : s.requests.asked ≡ None → Leaves (passes.keep_alive t s now)
     unfolding passes.keep_alive
     alive_within n = go (lease.is_renewing (lease.phase_of t.config s.lease now))
       where
-        go : (b : Bool) → SessionRun run (if b then passes.ask t s now bodies.KeepAlive None else t).here.session
-        go true = sent_within t s bodies.KeepAlive None tt
+        go : (b : Bool) → Leaves (if b then passes.ask t s now bodies.KeepAlive None else t)
+        go true = sent_within t s bodies.KeepAlive None (omega arith) tt
         go false = none_within n
 
-    for_within : (a : Option passes.Asking) → s.requests.asked ≡ None → AskingRun run a → SessionRun run (passes.ask_for_or t s now a).here.session
-    unfolding passes.ask_for_or passes.ask_for
+    for_within : (a : Option passes.Asking) → s.requests.asked ≡ None → AskingRun within.run a → Leaves (passes.ask_for_or t s now a)
+    unfolding passes.ask_for_or passes.ask_for pages.forget_from pages.drop_from
     for_within None n h = alive_within n
-    for_within (Some a) n h = sent_within _ s a.wanted.body _ h
+    for_within (Some a) n h = sent_within _ s a.wanted.body _ (cut a.wanted.cut) h
+      where
+        cut : (c : Option (ℕ × PageNo)) → (passes.cut_store c t.here.store).pages.next_version ≤ version t
+        cut None = omega arith
+        cut (Some c) = omega arith
 
     -- without an operation that may ask
-    new_within : s.requests.asked ≡ None → (s.due ≡ false → s.releases ≡ [] → is_serving t.config s now ≡ true → ⊥) →
-        SessionRun run (passes.ask_new t s now).here.session
+    new_within : s.requests.asked ≡ None → (s.due ≡ false → s.releases ≡ [] → is_serving t.config s now ≡ true → ⊥) → Leaves (passes.ask_new t s now)
     unfolding passes.ask_new passes.reassert passes.ask_by passes.ask_release passes.ask_next
     new_within n never = go s.due refl
       where
         next : s.due ≡ false → s.releases ≡ [] → (b : Bool) → is_serving t.config s now ≡ b →
-            SessionRun run (if b then passes.ask_for_or t s now (passes.first_asking t s now t.operations) else passes.keep_alive t s now).here.session
+            Leaves (if b then passes.ask_for_or t s now (passes.first_asking t s now t.operations) else passes.keep_alive t s now)
         next d r true v = absurd (never d r v)
         next d r false v = alive_within n
 
-        by : s.due ≡ false → (rs : List Release) → s.releases ≡ rs → SessionRun run (passes.ask_by t s now rs).here.session
+        by : s.due ≡ false → (rs : List Release) → s.releases ≡ rs → Leaves (passes.ask_by t s now rs)
         by d [] r = next d r (is_serving t.config s now) refl
-        by d (x ∷ xs) r = sent_within t (record s { releases = xs }) (bodies.Released x.ino x.g x.to) None tt
+        by d (x ∷ xs) r = sent_within t (record s { releases = xs }) (bodies.Released x.ino x.g x.to) None (omega arith) tt
 
-        go : (b : Bool) → s.due ≡ b → SessionRun run (if b then passes.reassert t s now else passes.ask_by t s now s.releases).here.session
-        go true d = sent_within t s (bodies.Reassert (locks.all_locks s.locks)) None tt
+        go : (b : Bool) → s.due ≡ b → Leaves (if b then passes.reassert t s now else passes.ask_by t s now s.releases)
+        go true d = sent_within t s (bodies.Reassert (locks.all_locks s.locks)) None (omega arith) tt
         go false d = by d s.releases refl
 
-    asks_again : (tick : Bool) (q : Request) → s.requests.asked ≡ Some q → Old run now t (passes.repeat t s now tick q)
+    asks_again : (tick : Bool) (q : Request) → s.requests.asked ≡ Some q → Old within now t (passes.repeat t s now tick q)
     unfolding passes.repeat passes.ask_again send
     asks_again tick q a =
         old_either (passes.is_old t.config now tick q) t _ _
@@ -257,23 +283,22 @@ module _ (now : Stamp) where
         (λ b. old_still t)
 
     asks_else : (tick : Bool) → (s.lease.condemned ≡ false → s.requests.asked ≡ None → s.due ≡ false → s.releases ≡ [] → is_serving t.config s now ≡ true → ⊥) →
-        Old run now t (passes.requests now tick t)
+        Old within now t (passes.requests now tick t)
     unfolding passes.requests passes.requests_by passes.requests_under passes.requests_at
-    asks_else tick never = subst (Old run now t) (sym (ap (passes.requests_by t now tick) e)) (go s.requests.asked refl)
+    asks_else tick never = subst (Old within now t) (sym (ap (passes.requests_by t now tick) e)) (go s.requests.asked refl)
       where
-        final : s.requests.asked ≡ None → (b : Bool) → s.lease.condemned ≡ b →
-            SessionRun run (if b then t else passes.ask_new t s now).here.session
+        final : s.requests.asked ≡ None → (b : Bool) → s.lease.condemned ≡ b → Leaves (if b then t else passes.ask_new t s now)
         final n true c = none_within n
         final n false c = new_within n (never c n)
 
-        go : (o : Option Request) → s.requests.asked ≡ o → Old run now t (if s.lease.condemned then t else passes.requests_at t s now tick o)
+        go : (o : Option Request) → s.requests.asked ≡ o → Old within now t (if s.lease.condemned then t else passes.requests_at t s now tick o)
         go (Some q) a = old_either s.lease.condemned t _ _ (λ c. old_still t) (λ c. asks_again tick q a)
         go None a =
+            let f = final a s.lease.condemned refl in
             old_asks
             (subst (passing.Changes [] passing.OnlyAsks now t)
             (ap (passes.requests_by t now tick) e ∙ ap (λ o. if s.lease.condemned then t else passes.requests_at t s now tick o) a)
-            (requests_keep_or_ask now tick t))
-            (final a s.lease.condemned refl)
+            (requests_keep_or_ask now tick t)) f.asked f.version
 
   requests : (tick : Bool) (t : ThirdTurn) → C t (third.requests now tick t)
   unfolding third.requests third.requests_by third.requests_under
@@ -293,9 +318,9 @@ module _ (now : Stamp) where
           either (third.may_operations_ask t s now) t _ _
           (λ m. let z = is_free t s m in let a = third.first_asking t s now t.plain.operations in
           by_rule t (third.asked_for s now a)
-          (old_asks (changes_by_ask_for_or now t.plain s a e z.0 z.1 (wants_first t s t.plain.operations))
-          (for_within t.beside.run t.plain s e a z.0 (first_within t s t.plain.operations))))
-          (λ m. by_rule t (passes.requests now tick) (asks_else t.beside.run t.plain s e tick (may_not s m)))
+          (let x = for_within (bounds t) t.plain s e a z.0 (first_within t s t.plain.operations) in
+          old_asks (changes_by_ask_for_or now t.plain s a e z.0 z.1 (wants_first t s t.plain.operations)) x.asked x.version))
+          (λ m. by_rule t (passes.requests now tick) (asks_else (bounds t) t.plain s e tick (may_not s m)))
 
   -- All passes
   pub passes_change : (tick : Bool) (t : ThirdTurn) → ThirdPasses now t (third.third_passes now tick t)

@@ -1,17 +1,14 @@
 -- What a client of the third form does with a server's message is a list of changes.
 use Rattle.st_lemmas.proofs.Words
-use Words.{◌≡◌, ℕ, Bool, true, false, ◌==◌, Option, Some, None, refl, ap, ◌∙◌, is_some, ltb-true, nat_lt, if◌then◌else◌}
-use Words.{Asked, Body, Epoch, GrantNo, Header, HeldLock, Mode, NameReply, PageNo, Request, Stamp, Why}
-use Words.answers
+use Words.{◌≡◌, ℕ, true, ◌==◌, Option, Some, None, refl, ap, ◌∙◌, is_some, ltb-true, nat_lt}
+use Words.{Asked, Body, Epoch, GrantNo, Header, Mode, Request, Stamp, Why}
 use Words.bodies
 use Words.why
 use Words.ClientLocks as locks
 use Words.ClientReplies as replies
 use Words.ClientState as cs
-use Words.ClientState.{ClientSession, Turn, fits, send, with_cache, with_session}
-use Words.ClientLease as lease
+use Words.ClientState.{ClientSession, fits, send, with_cache, with_session}
 use Words.Tables.{and_true}
-use Rattle.st_messages.specs.declared.message.NameReply.TheVariants.{Ino, Listed, Refused}
 use Rattle.st_rules.specs.declared.client.Asked.TheVariants.{Reduce, NotHeld, Stale}
 use Rattle.st_laws_steps.specs.Client.Client as client
 use Rattle.st_laws_steps.specs.Client.Client.{map_asked, with_greeted}
@@ -22,7 +19,7 @@ use Rattle.st_third.specs.Limits.{limited_session}
 use Rattle.st_third.specs.Replies as third
 use Rattle.st_third.specs.Runs as runs
 use Rattle.st_third.specs.State.{ThirdTurn, fresh_beside, plainly, session}
-use Rattle.st_laws_third.specs.Changes.{ThirdChanges, Begins, FreeRun, Sees, IsBeside, Plainly, Still, WholeRun, with_plain}
+use Rattle.st_laws_third.specs.Changes.{ThirdChanges, Begins, FreeRun, Sees, IsBeside, Plainly, Still, WholeRun, bounds, with_plain}
 use Rattle.st_laws_third.proofs.Chains.{Old, both, by_rule, either, old_both, old_one, old_still, one}
 use Rattle.st_laws_third.proofs.GivingBack.{is_full_at}
 use Rattle.st_laws_third.proofs.Replying.{ends_request, of_other_epoch}
@@ -65,20 +62,20 @@ module _ (now : Stamp) where
         r = with_cache (locks.demand s.locks ino g to).locks s
 
         goes : (u : ClientSession) → Rattle.st_laws_steps.specs.Client.Session.AsksNothing t.plain.here.store.extents s u →
-            Old t.beside.run now t.plain (with_session u t.plain)
+            Old (bounds t) now t.plain (with_session u t.plain)
         goes u a = old_one (client.Follows t.plain s u e (goes_keeps t.plain.here.store s u a)) tt
 
-        seen : (u : ClientSession) → Old t.beside.run now t.plain (with_session u t.plain) →
-            Old t.beside.run now t.plain (replies.observe_demand t.plain u ino g)
+        seen : (u : ClientSession) → Old (bounds t) now t.plain (with_session u t.plain) →
+            Old (bounds t) now t.plain (replies.observe_demand t.plain u ino g)
         seen u c = old_both c (old_one (client.Says (with_session u t.plain) _ tt) (Sees ino g))
 
-        go : (a : Asked) → Old t.beside.run now t.plain (third.demand_as r ino g a t.plain)
+        go : (a : Asked) → Old (bounds t) now t.plain (third.demand_as r ino g a t.plain)
         go Reduce = seen r (goes r (alike_demanded t.plain.here.store.extents s ino g to))
         go NotHeld = seen (replies.release_unheld r ino g) (goes (replies.release_unheld r ino g) (alike_unheld t.plain.here.store.extents s ino g to))
         go Stale = old_still t.plain
 
     ends : (t : ThirdTurn) (stamp : Stamp) → session t ≡ Some s → C t (third.end_request t s stamp)
-    ends t stamp e = by_rule t (third.request_ended s stamp) (ends_request t.beside.run now t.plain s stamp e)
+    ends t stamp e = by_rule t (third.request_ended s stamp) (ends_request (bounds t) now t.plain s stamp e)
 
     ended : (t : ThirdTurn) (stamp : Stamp) → session (third.end_request t s stamp) ≡ Some (replies.ended_by stamp s)
     unfolding plainly
@@ -87,7 +84,7 @@ module _ (now : Stamp) where
     counts : (t : ThirdTurn) (stamp : Stamp) (reply asked : Body) → session t ≡ Some s → fits reply asked ≡ true → Fresh t.plain.here.store asked →
         C t (plainly (third.plain_reply s now stamp reply asked) t)
     counts t stamp reply asked e f fr = by_rule t (third.plain_reply s now stamp reply asked)
-        (counts_as_before t.beside.run now t.plain s stamp reply asked e f fr)
+        (counts_as_before (bounds t) now t.plain s stamp reply asked e f fr)
 
     -- the outstanding request is for this
     abbrev Asked_for : Body → Type 0
@@ -132,7 +129,7 @@ module _ (now : Stamp) where
             (λ x i. fr x (ap map_asked q ∙ i))) (λ b. Still t)
 
     condemns : (t : ThirdTurn) → session t ≡ Some s → C t (plainly (third.condemned s) t)
-    condemns t e = by_rule t (third.condemned s) (condemns_lease t.beside.run now t.plain s e)
+    condemns t e = by_rule t (third.condemned s) (condemns_lease (bounds t) now t.plain s e)
 
     nacks : (t : ThirdTurn) (h : Header) (w : Why) (a b : ℕ) → session t ≡ Some s → AskedFresh t.plain.here.store s.requests.asked →
         C t (third.nack t s now h w a b)
@@ -162,4 +159,4 @@ module _ (now : Stamp) where
       go None e fr = without t h body e
       go (Some s) e fr =
           either (h.epoch == s.epoch.0) t _ _ (λ b. hears s t h body e fr)
-          (λ b. by_rule t (third.of_other_epoch s (record { 0 = h.epoch }) body) (of_other_epoch t.beside.run now t.plain s _ body e))
+          (λ b. by_rule t (third.of_other_epoch s (record { 0 = h.epoch }) body) (of_other_epoch (bounds t) now t.plain s _ body e))

@@ -1,6 +1,6 @@
 -- What a reply does at a client, as in the first two forms, is a list of changes that ask nothing and send nothing.
 use Rattle.st_lemmas.proofs.Words
-use Words.{◌≡◌, ◌≤◌, ℕ, Bool, true, false, ◌&&◌, not, List, [], ◌∷◌, Option, Some, None, refl, sym, ap, subst, inl, arith, if◌then◌else◌, eqb-true, ltb-true, nat_lt}
+use Words.{◌≡◌, ◌≤◌, ℕ, Bool, true, false, not, List, [], ◌∷◌, Option, Some, None, refl, sym, subst, inl, arith, if◌then◌else◌, eqb-true, ltb-true, nat_lt}
 use Words.{Body, Epoch, ExtentRow, HeldLock, NameReply, PageNo, Stamp, Why}
 use Words.answers
 use Words.bodies
@@ -20,6 +20,7 @@ use Rattle.st_laws_steps.specs.Client.Session.{AsksNothing, DropsLock, EndsReque
 use Rattle.st_laws_steps.proofs.Client.Calm.{changes_by_each_answer}
 use Rattle.st_laws_steps.proofs.Client.Changes.{goes_keeps}
 use Rattle.st_laws_steps.proofs.Client.Replying.{Fresh, alike_condemned, alike_wait, granted_alike, same_store, session_ended}
+use Rattle.st_laws_third.specs.Changes.{Bounds}
 use Rattle.st_laws_third.proofs.Chains.{Old, old_both, old_calm, old_either, old_one, old_still}
 
 -- a lease that is renewed is dated no earlier
@@ -34,9 +35,9 @@ renewed_date stamp l = go (lease.is_renewal stamp l) refl
 no_page : (x : ℕ × PageNo) → ◌≡◌ {A = Option (ℕ × PageNo)} None (Some x) → ⊥
 no_page x q = cc
 
-module _ (run : ℕ) (now : Stamp) where
+module _ (within : Bounds) (now : Stamp) where
   abbrev C : Turn → Turn → Type 0
-  C t u = Old run now t u
+  C t u = Old within now t u
 
   goes_on : (t : Turn) (s u : ClientSession) → t.here.session ≡ Some s → AsksNothing t.here.store.extents s u → C t (with_session u t)
   goes_on t s u e a = old_one (client.Follows t s u e (goes_keeps t.here.store s u a)) tt

@@ -1,6 +1,7 @@
 -- Changes of pages, reads and writes of a client of the third form are lists of changes.
 use Rattle.st_lemmas.proofs.Words
-use Words.{◌≡◌, ℕ, Bool, true, false, List, [], ◌∷◌, Option, Some, None, not, refl, ◌∙◌, if◌then◌else◌, FileId, PageNo, Ask, DirtyPage, MappedBlock, Note, Operation, Stamp}
+use Words.{◌≡◌, ◌≤◌, ℕ, Bool, true, false, List, [], ◌∷◌, Option, Some, None, not, refl, ◌∙◌, arith, if◌then◌else◌, FileId, PageNo, Ask, CleanPage, DirtyPage, KnownExtent}
+use Words.{MappedBlock, Note, Operation, Stamp}
 use Words.asks
 use Words.answers
 use Words.modes
@@ -9,7 +10,7 @@ use Words.outputs
 use Words.FlatLog.{overlay}
 use Words.ClientPages as pages
 use Words.ClientPasses as passes
-use Words.ClientState.{ClientSession, file_of, is_serving, keep, server_of}
+use Words.ClientState.{ClientSession, Turn, file_of, is_serving, keep, server_of}
 use Words.Tables.{and_true, not_true}
 use Rattle.st_laws_steps.specs.Client.Client as client
 use Rattle.st_laws_steps.specs.Client.Client.{ChangesPage}
@@ -18,8 +19,8 @@ use Rattle.st_laws_steps.proofs.Client.Working.{changes_by_fetch, changes_by_rea
 use Rattle.st_third.specs.Limits.{is_dirty_full}
 use Rattle.st_third.specs.Room as room
 use Rattle.st_third.specs.State.{ThirdTurn, plainly, session}
-use Rattle.st_laws_third.specs.Changes.{ThirdChanges, Still, WaitsForRoom}
-use Rattle.st_laws_third.proofs.Chains.{Old, both, by_rule, either, old_both, old_one, old_pass, old_still, one}
+use Rattle.st_laws_third.specs.Changes.{ThirdChanges, Still, WaitsForRoom, bounds}
+use Rattle.st_laws_third.proofs.Chains.{Old, both, by_rule, either, old_both, old_one, old_pass, old_still, one, version}
 
 -- what a write leaves of the session
 same_session : (now : Stamp) (at : List ℕ) (s : ClientSession) (tick : Bool) (t : ThirdTurn) (d : Option DirtyPage) →
@@ -35,6 +36,51 @@ same_session now at s tick t (Some d) = go (room.is_writable at t s now tick d)
     go : (b : Bool) → session (if b then plainly (room.written_out d) t else t) ≡ session t
     go true = out (pages.mapping_of t.plain.here.store.extents d.ino d.page)
     go false = refl
+
+-- neither a fetch nor a read changes a page
+fetch_version : (t : Turn) (o : Operation) (f : FileId) (p : PageNo) → version (passes.fetch t o f p) ≤ version t
+unfolding passes.fetch passes.fetch_at passes.fetch_mapped passes.submit_read passes.submit_command
+fetch_version t o f p = go (pages.mapping_of t.here.store.extents f.ino p)
+  where
+    at : (m : MappedBlock) (b : Bool) → version (keep o (if b then t else passes.submit_read t f.ino p m)) ≤ version t
+    at m true = omega arith
+    at m false = omega arith
+
+    go : (m : Option MappedBlock) → version (keep o (passes.fetch_at t f p m)) ≤ version t
+    go None = omega arith
+    go (Some m) = at m (pages.is_being_read t.here.store.commands f.ino p)
+
+use_version : (t : Turn) (o : Operation) (f : FileId) (p : PageNo) (bytes : List ℕ) → version (passes.read_cached t o f p bytes) ≤ version t
+unfolding passes.read_cached pages.use_page pages.use_at pages.use_clean
+use_version t o f p bytes = go (pages.dirty_of t.here.store.pages f.ino p)
+  where
+    at : (c : Option CleanPage) → (pages.use_at t.here.store.pages c).next_version ≤ version t
+    at None = omega arith
+    at (Some c) = omega arith
+
+    go : (d : Option DirtyPage) → (pages.use_clean t.here.store.pages f.ino p d).next_version ≤ version t
+    go None = at (pages.clean_of t.here.store.pages f.ino p)
+    go (Some d) = omega arith
+
+read_version : (t : Turn) (s : ClientSession) (o : Operation) (f : FileId) (p : PageNo) → version (passes.read t s o f p) ≤ version t
+unfolding passes.read passes.read_at passes.read_uncached passes.read_known
+read_version t s o f p = go (passes.holds s modes.S f)
+  where
+    known : (e : KnownExtent) (m : Option MappedBlock) → version (passes.read_known t o f p e m) ≤ version t
+    known e None = omega arith
+    known e (Some m) = fetch_version t o f p
+
+    uncached : (e : Option KnownExtent) → version (passes.read_uncached t o f p e) ≤ version t
+    uncached None = omega arith
+    uncached (Some e) = known e e.mapping
+
+    at : (b : Option (List ℕ)) → version (passes.read_at t o f p b) ≤ version t
+    at None = uncached (pages.known_of t.here.store.extents f.ino p)
+    at (Some bytes) = use_version t o f p bytes
+
+    go : (b : Bool) → version (if b then passes.read_at t o f p (pages.cached t.here.store.pages f.ino p) else keep o t) ≤ version t
+    go true = at (pages.cached t.here.store.pages f.ino p)
+    go false = omega arith
 
 module _ {now : Stamp} where
   pub keeps : (t : ThirdTurn) (o : Operation) → ThirdChanges now t (plainly (keep o) t)
@@ -58,7 +104,7 @@ module _ {now : Stamp} where
       changes_page f p bytes n own m h =
           either (is_dirty_full t.limits.dirty t.plain.here.store.pages f.ino p) t _ _ (λ e. finds_none)
           (λ e. by_rule t (room.changed o f p bytes n)
-          (old_both (old_one (client.Writes t.plain s f p bytes n se sv own m h) tt) (old_one (client.Says _ (outputs.Answer o.op answers.Written) tt) tt)))
+          (old_both (old_one (client.Writes t.plain s f p bytes n se sv own m h) e) (old_one (client.Says _ (outputs.Answer o.op answers.Written) tt) tt)))
 
       writes_page : (f : FileId) (p : PageNo) (bytes : List ℕ) → f.server ≡ t.plain.here.server → ThirdChanges now t (room.write t s o f p bytes)
       unfolding room.write
@@ -77,7 +123,7 @@ module _ {now : Stamp} where
         where
           go : pages.is_mapped t.plain.here.store.extents f.ino p ≡ true → (b : Option (List ℕ)) → pages.cached t.plain.here.store.pages f.ino p ≡ b →
               ThirdChanges now t (room.patch_at t o f p at bytes b)
-          go m None q = by_rule t (room.fetched o f p) (old_pass (changes_by_fetch [] now t.plain o f p q free))
+          go m None q = by_rule t (room.fetched o f p) (old_pass (changes_by_fetch [] now t.plain o f p q free) (fetch_version t.plain o f p))
           go m (Some old) q = changes_page f p (overlay at bytes old) (notes.Patched f p at bytes) own m (refl, refl)
 
       -- an operation to which its file is open
@@ -86,7 +132,7 @@ module _ {now : Stamp} where
       unfolding room.serve_open
       serves (asks.Write f p bytes) own free = writes_page f p bytes own
       serves (asks.Patch f p at bytes) own free = patches f p at bytes own (free f.ino refl)
-      serves (asks.Read f p) own free = by_rule t (room.read s o f p) (old_pass (changes_by_read [] now t.plain s o f p (free f.ino refl)))
+      serves (asks.Read f p) own free = by_rule t (room.read s o f p) (old_pass (changes_by_read [] now t.plain s o f p (free f.ino refl)) (read_version t.plain s o f p))
       serves ask own free = keeps t o
 
   -- Writes.
@@ -103,7 +149,7 @@ module _ {now : Stamp} where
         (pages.mapping_of t.plain.here.store.extents d.ino d.page) refl)) (λ w. Still t)
       where
         go : pages.is_being_written t.plain.here.store.commands d.ino d.page ≡ false → (m : Option MappedBlock) →
-            pages.mapping_of t.plain.here.store.extents d.ino d.page ≡ m → Old t.beside.run now t.plain (passes.write_out_at t.plain d m)
+            pages.mapping_of t.plain.here.store.extents d.ino d.page ≡ m → Old (bounds t) now t.plain (passes.write_out_at t.plain d m)
         go w None i = old_still t.plain
         go w (Some m) i = old_one (client.Submits t.plain s ino p d m se e i w) tt
 

@@ -24,7 +24,6 @@ use Rattle.st_third.specs.declared.output.ThirdOutput.{ThirdOutput}
 use Rattle.st_third.specs.declared.output.ThirdOutput.TheVariants as says
 use Rattle.st_third.specs.Events as every
 use Rattle.st_third.specs.Events.{third_counted}
-use Rattle.st_third.specs.Leave as leaving
 use Rattle.st_third.specs.Limits.{most_clients}
 use Rattle.st_third.specs.Promises.{RunsAreShort, is_short}
 use Rattle.st_third.specs.State.{Beside, RUN, ThirdTurn, session}
@@ -33,8 +32,8 @@ use Rattle.st_third.specs.Steps.{ThirdStep, ThirdTraced}
 use Rattle.st_third.specs.UsedOnce.{reduced}
 use Rattle.st_third.specs.World as worlds
 use Rattle.st_third.specs.World.{ThirdWorld, third_world}
-use Rattle.st_laws_third.specs.Changes.{AsksRight, Continues, IsRun, RunLimit, SameRun, WholeRun, FreeRun, Sends, Greets, Sees, Asks}
-use Rattle.st_laws_third.specs.Changes.{ThirdChange, Plainly, Says, Leaves, IsBeside, WaitsForRoom, Begins, GivesBack, Reduces, with_plain}
+use Rattle.st_laws_third.specs.Changes.{AsksRight, Bounds, Continues, IsRun, RunLimit, SameRun, WholeRun, FreeRun, Sends, Greets, Sees, Asks}
+use Rattle.st_laws_third.specs.Changes.{ThirdChange, Plainly, Says, Leaves, IsBeside, WaitsForRoom, Begins, GivesBack, Reduces, bounds}
 use Rattle.st_laws_third.specs.ShortRuns.{EveryAllocationIsShort}
 use Rattle.st_laws_third.proofs.AllClients.{AllGood, good_after, good_first, good_said}
 use Rattle.st_laws_third.proofs.Chains.{RequestRun, SessionRun}
@@ -81,22 +80,22 @@ change_asked run st s _ (NewEpoch _ epoch n) r l f = tt
 change_asked run st s _ (AsksNew _ x now body cutting a c i) r l f = wider run RUN body l r
 change_asked run st s _ (AsksAgain _ now q e) r l f = subst (RequestRun RUN) e f
 
-plain_asked : (run : ℕ) (now : Stamp) (t u : Turn) (c : client.Change now t u) → Continues run now t u c → run ≤ RUN → SessionRun RUN t.here.session →
+plain_asked : (within : Bounds) (now : Stamp) (t u : Turn) (c : client.Change now t u) → Continues within now t u c → within.run ≤ RUN → SessionRun RUN t.here.session →
     SessionRun RUN u.here.session
 unfolding passes.submit_read passes.submit_write passes.submit_command
-plain_asked run now t _ (client.Says _ o p) n l f = f
-plain_asked run now t _ (client.Operates _ os) n l f = f
-plain_asked run now t _ (client.Answers _ os ops a) n l f = f
-plain_asked run now t _ (client.Greets _ g) n l f = f
-plain_asked run now t _ (client.TellsLost _ lost) n l f = f
-plain_asked run now t _ (client.Begins _ s a b c) n l f = absurd n
-plain_asked run now t _ (client.Follows _ s u e g) n l f = change_asked run t.here.store s u g.how n l (subst (SessionRun RUN) e f)
-plain_asked run now t _ (client.Learns _ e u h) n l f = f
-plain_asked run now t _ (client.Forgets _ ino p i) n l f = f
-plain_asked run now t _ (client.Caches _ clean) n l f = f
-plain_asked run now t _ (client.Writes _ s g p bytes x sv own m h i) n l f = f
-plain_asked run now t _ (client.Reads _ ino p m i clean) n l f = f
-plain_asked run now t _ (client.Submits _ s ino p d m e i k w) n l f = f
+plain_asked within now t _ (client.Says _ o p) n l f = f
+plain_asked within now t _ (client.Operates _ os) n l f = f
+plain_asked within now t _ (client.Answers _ os ops a) n l f = f
+plain_asked within now t _ (client.Greets _ g) n l f = f
+plain_asked within now t _ (client.TellsLost _ lost) n l f = f
+plain_asked within now t _ (client.Begins _ s a b c) n l f = absurd n
+plain_asked within now t _ (client.Follows _ s u e g) n l f = change_asked within.run t.here.store s u g.how n l (subst (SessionRun RUN) e f)
+plain_asked within now t _ (client.Learns _ e u h) n l f = f
+plain_asked within now t _ (client.Forgets _ ino p i) n l f = f
+plain_asked within now t _ (client.Caches _ clean) n l f = f
+plain_asked within now t _ (client.Writes _ s g p bytes x sv own m h i) n l f = f
+plain_asked within now t _ (client.Reads _ ino p m i clean) n l f = f
+plain_asked within now t _ (client.Submits _ s ino p d m e i k w) n l f = f
 
 -- a reduction asks nothing
 reduced_asked : (t : ThirdTurn) (s : ClientSession) (d : DemandedFile) (ino : ℕ) → session t ≡ Some s → SessionRun RUN (session t) →
@@ -116,7 +115,7 @@ limit_short t b (FreeRun s q ino x p count e a i l) g =
 
 change_short : (now : Stamp) (t u : ThirdTurn) → ThirdChange now t u → IsShort t.plain.here t.beside → IsShort u.plain.here u.beside
 unfolding Rattle.st_third.specs.State.say Rattle.st_third.specs.State.plainly
-change_short now t _ (Plainly _ u c p) g = record { asked = plain_asked t.beside.run now t.plain u c p g.run g.asked; run = g.run }
+change_short now t _ (Plainly _ u c p) g = record { asked = plain_asked (bounds t) now t.plain u c p g.run g.asked; run = g.run }
 change_short now t _ (Says _ o w) g = g
 change_short now t _ (Leaves _ ls) g = g
 change_short now t _ (IsBeside _ b l) g = record { asked = g.asked; run = limit_short t b l g }
@@ -202,7 +201,7 @@ fate_short : (o : Observation) → IsFate o → is_short (seen.Plain o) ≡ true
 fate_short (plain_seen.Sent k m) i = absurd i
 fate_short o i = refl
 
-all_true : {A : Type 0} (f : A → Rattle.std.specs.Prelude.Bool) (xs : List A) → ((x : A) → Has x xs → f x ≡ true) → list_all f xs ≡ true
+pub all_true : {A : Type 0} (f : A → Rattle.std.specs.Prelude.Bool) (xs : List A) → ((x : A) → Has x xs → f x ≡ true) → list_all f xs ≡ true
 all_true f [] h = refl
 all_true f (x ∷ xs) h = Rattle.st_lemmas.proofs.Tables.and_both (f x) (list_all f xs) (h x (inl refl)) (all_true f xs (λ y i. h y (inr i)))
 

@@ -153,17 +153,18 @@ module _ (w v : ThirdWorld) (so : Sound w) where
           ∙ ap (λ (t : WorldClient). length t.node.state.associations) s
       pair_at n site z e h false r = so.fits.pairs n site z (sym (others n (apart n c.0 r)) ∙ e) (sym (y n (apart n c.0 r)) ∙ h)
 
--- Over a run: a promise holds throughout, if it is kept at each step from a world in which this holds.
-module _ (promise : ThirdPromise)
-    (one : (past : List ThirdStep) (t : ThirdTraced) (e : ThirdEvent) → Sound t.third → worlds.refusal t.third e ≡ None →
-    Moved t.third (every.happens (third_counted t.third) e).third → promise past (steps.third_step t e (every.happens (third_counted t.third) e))) where
+-- Over a run: a promise holds throughout, if it is kept at each step from a world in which this holds, and what else each event keeps.
+module _ (more : ThirdWorld → Type 0) (after : (w v : ThirdWorld) → Sound w → more w → Moved w v → more v) (promise : ThirdPromise)
+    (one : (past : List ThirdStep) (t : ThirdTraced) (e : ThirdEvent) → Sound t.third → more t.third → worlds.refusal t.third e ≡ None →
+    Moved t.third (every.happens (third_counted t.third) e).third → more (every.happens (third_counted t.third) e).third →
+    promise past (steps.third_step t e (every.happens (third_counted t.third) e))) where
   abbrev Goes_on : List ThirdEvent → Type 0
-  Goes_on es = (past : List ThirdStep) (t : ThirdTraced) → Sound t.third → Throughout promise past (steps.steps es t)
+  Goes_on es = (past : List ThirdStep) (t : ThirdTraced) → Sound t.third → more t.third → Throughout promise past (steps.steps es t)
 
-  pub kept_throughout : (es : List ThirdEvent) → Goes_on es
+  pub kept_throughout_with : (es : List ThirdEvent) → Goes_on es
   unfolding Throughout steps.steps steps.steps_on every.world_step every.world_by
-  kept_throughout [] past t so = tt
-  kept_throughout (e ∷ es) past t so = go (kept_throughout es) (worlds.refusal t.third e) refl
+  kept_throughout_with [] past t so x = tt
+  kept_throughout_with (e ∷ es) past t so x = go (kept_throughout_with es) (worlds.refusal t.third e) refl
     where
       go : Goes_on es → (r : Option WorldRefusal) → worlds.refusal t.third e ≡ r →
           Throughout promise past (steps.steps_on (steps.steps es) t e (every.world_by t.third e r))
@@ -171,7 +172,16 @@ module _ (promise : ThirdPromise)
       go rest None q =
           let sc : ThirdWorldTurn = every.happens (third_counted t.third) e in
           let m : Moved t.third sc.third = elsewhere t.third (third_counted t.third) sc.third refl refl (moves (third_counted t.third) e so.form) in
-          (one past t e so q m, rest _ (steps.traced_after e t sc) (sound_after t.third sc.third so m))
+          let y : more sc.third = after t.third sc.third so x m in
+          (one past t e so x q m y, rest _ (steps.traced_after e t sc) (sound_after t.third sc.third so m) y)
+
+-- without anything else
+pub kept_throughout : (promise : ThirdPromise) →
+    ((past : List ThirdStep) (t : ThirdTraced) (e : ThirdEvent) → Sound t.third → worlds.refusal t.third e ≡ None →
+    Moved t.third (every.happens (third_counted t.third) e).third → promise past (steps.third_step t e (every.happens (third_counted t.third) e))) →
+    (es : List ThirdEvent) (past : List ThirdStep) (t : ThirdTraced) → Sound t.third → Throughout promise past (steps.steps es t)
+kept_throughout promise one es past t so =
+    kept_throughout_with (λ w. Unit {0}) (λ w v so x m. tt) promise (λ past t e so x q m y. one past t e so q m) es past t so tt
 
 -- At the start.
 

@@ -1,8 +1,7 @@
 -- Who said what is observed in an event of the third form: a client that took an input, or a server. All else that is observed is a fate of an entry.
 use Rattle.st_lemmas.proofs.Words
-use Words.{◌≡◌, ◌⊎◌, ◌+◌, ℕ, Bool, true, false, List, [], ◌∷◌, ◌++◌, map, Option, Some, None, Result, Ok, Err, refl, sym, ap, ◌∙◌, subst, inl, inr, if◌then◌else◌}
-use Words.{AppAnswer, BlockAt, Cause, ClientId, Command, Fate, FileId, IssuedCommand, Life, LogEntry, Message, NodeId, Note, Observation, Output, PageNo, SentMessage, ServerId, ServerInput, Stamp, StepRefusal}
-use Words.events
+use Words.{◌≡◌, ◌⊎◌, ◌+◌, ℕ, Bool, true, List, [], ◌∷◌, map, Option, Some, None, Ok, refl, sym, subst, inl, inr}
+use Words.{AppAnswer, BlockAt, ClientId, Command, Fate, FileId, Life, LogEntry, Message, Note, Observation, Output, PageNo, ServerId, ServerInput, Stamp}
 use Words.nodes
 use Words.notes
 use Words.outputs
@@ -11,17 +10,13 @@ use Words.ClientState.{ClientState}
 use Words.Events as ev
 use Words.Events.{WorldTurn, quiet}
 use Words.Lists.{Has}
-use Words.Server as server
 use Words.Server.{ServerNode}
 use Words.Tables.{has_append, has_map}
-use Words.World.{WorldClient, clock_of, issued_of, message_of, node_of, site_of}
+use Words.World.{WorldClient, clock_of, node_of, site_of}
 use Rattle.st_rules.specs.declared.log.Fate.TheVariants as fates
-use Rattle.st_rules.specs.declared.node.StepRefusal.TheVariants.{Crashed}
 use Rattle.st_rules.specs.declared.observation.Observation.TheVariants as plain_seen
 use Rattle.st_third.specs.declared.event.ThirdEvent.{ThirdEvent}
-use Rattle.st_third.specs.declared.event.ThirdEvent.TheVariants as third
 use Rattle.st_third.specs.declared.event.ThirdInput.{ThirdInput}
-use Rattle.st_third.specs.declared.event.ThirdInput.TheVariants as takes
 use Rattle.st_third.specs.declared.observation.ThirdObservation.{ThirdObservation}
 use Rattle.st_third.specs.declared.observation.ThirdObservation.TheVariants as seen
 use Rattle.st_third.specs.declared.output.ThirdOutput.{ThirdOutput}
@@ -30,8 +25,8 @@ use Rattle.st_third.specs.Client.{client_step}
 use Rattle.st_third.specs.Events as every
 use Rattle.st_third.specs.Events.{ThirdWorldTurn, unseen}
 use Rattle.st_third.specs.Limits.{is_third}
-use Rattle.st_third.specs.Server.{node_step, server_step}
-use Rattle.st_third.specs.State.{ClientBeside, ThirdClient, ThirdClientTurn}
+use Rattle.st_third.specs.Server.{server_step}
+use Rattle.st_third.specs.State.{ClientBeside, ThirdClientTurn}
 use Rattle.st_third.specs.World.{ThirdWorld, beside_of}
 use Rattle.st_laws_third.proofs.EventWalk.{Client_step, EventLaw, Server_step, walk_of_event}
 

@@ -27,7 +27,7 @@ use Rattle.st_third.specs.declared.output.ThirdOutput.{ThirdOutput}
 use Rattle.st_third.specs.declared.output.ThirdOutput.TheVariants as says
 use Rattle.st_third.specs.GiveBack.{demanded}
 use Rattle.st_third.specs.Leave.{emptied, noted_lost}
-use Rattle.st_third.specs.Limits.{limited_session}
+use Rattle.st_third.specs.Limits.{is_dirty_full, limited_session}
 use Rattle.st_third.specs.State.{Beside, RUN, ThirdTurn, here, say, session, with_beside, with_its_session}
 use Rattle.st_third.specs.UsedOnce.{reduced}
 
@@ -75,13 +75,23 @@ abbrev pub AsksRight : (run : ℕ) (st : Store) (s u : ClientSession) → Sessio
 AsksRight run st s _ (AsksNew _ r now body cutting a c i) = IsRun run body
 AsksRight run st s u c = Unit {0}
 
--- A change of the first two forms, under a limit of runs. It begins no session, sends nothing else, and
--- asks for no longer run.
-abbrev pub Continues : (run : ℕ) (now : Stamp) (t u : Turn) → Change now t u → Type 0
-Continues run now t _ (client.Begins _ s a b c) = ⊥
-Continues run now t _ (client.Says _ o p) = SendsRight t o
-Continues run now t _ (client.Follows _ s u e g) = AsksRight run t.here.store s u g.how
-Continues run now t u c = Unit {0}
+-- What bounds a change: how many pages a run may have, and how many pages may be dirty.
+pub record Bounds : Type 0 where
+  pub run : ℕ
+  pub dirty : ℕ
+
+-- those of a turn
+abbrev pub bounds : ThirdTurn → Bounds
+bounds t = record { run = t.beside.run; dirty = t.limits.dirty }
+
+-- A change of the first two forms, within bounds. It begins no session, sends nothing else, asks for no
+-- longer run, and changes a page only if there is room for it.
+abbrev pub Continues : (within : Bounds) (now : Stamp) (t u : Turn) → Change now t u → Type 0
+Continues within now t _ (client.Begins _ s a b c) = ⊥
+Continues within now t _ (client.Says _ o p) = SendsRight t o
+Continues within now t _ (client.Follows _ s u e g) = AsksRight within.run t.here.store s u g.how
+Continues within now t _ (client.Writes _ s f p bytes n se sv own m h) = is_dirty_full within.dirty t.here.store.pages f.ino p ≡ false
+Continues within now t u c = Unit {0}
 
 -- How the limit of runs changes: it stays, is whole again, or is less than the blocks that the
 -- outstanding request asks for.
@@ -94,7 +104,7 @@ pub data RunLimit (t : ThirdTurn) (b : Beside) : Type 0 where
 -- One change, by a rule at a moment.
 pub data ThirdChange (now : Stamp) : ThirdTurn → ThirdTurn → Type 0 where
   -- one that the first two forms make too
-  Plainly : (t : ThirdTurn) (u : Turn) (c : Change now t.plain u) → Continues t.beside.run now t.plain u c → ThirdChange now t (with_plain u t)
+  Plainly : (t : ThirdTurn) (u : Turn) (c : Change now t.plain u) → Continues (bounds t) now t.plain u c → ThirdChange now t (with_plain u t)
   -- a word
   Says : (t : ThirdTurn) (o : ThirdOutput) → PlainWord o → ThirdChange now t (say t o)
   -- other leaves are pending

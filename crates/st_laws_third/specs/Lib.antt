@@ -9,3 +9,6 @@ pub mod Invariants
 pub mod DemandsSeen
 pub mod ShortRuns
 pub mod FirstPromises
+pub mod Expiry
+pub mod FewLocks
+pub mod FewDirty

@@ -1,5 +1,8 @@
 ghost use Rattle.st_laws_third.specs.Demands.{EveryDemandIsAnswered, EveryRunAnswersDemands};
 ghost use Rattle.st_laws_third.specs.DemandsSeen.{EveryDemandIsSeen};
+ghost use Rattle.st_laws_third.specs.Expiry.{EveryExpiredLeaseLeavesNothing};
+ghost use Rattle.st_laws_third.specs.FewDirty.{EveryClientHasFewDirtyPages};
+ghost use Rattle.st_laws_third.specs.FewLocks.{EveryClientHasFewLocks};
 ghost use Rattle.st_laws_third.specs.FirstForms.{FirstHeadsStay, FirstRunsStay, FirstStepsStay};
 ghost use Rattle.st_laws_third.specs.FirstPromises.{EveryHardEntryStays};
 ghost use Rattle.st_laws_third.specs.Invariants.{EveryClientFits};
@@ -87,4 +90,23 @@ pub fn every_allocation_is_short()
 /// hard after it.
 pub fn every_hard_entry_stays()
     ensures { EveryHardEntryStays }
+{}
+
+/// In every run of the third form, a client that takes a step while its lease at a server is over
+/// is in its next life there after it. It then has neither a session nor a page, a known place or a
+/// command of that server.
+pub fn every_expired_lease_leaves_nothing()
+    ensures { EveryExpiredLeaseLeavesNothing }
+{}
+
+/// After each event of every run of the third form, no client has more locks of a server than its
+/// limit says.
+pub fn every_client_has_few_locks()
+    ensures { EveryClientHasFewLocks }
+{}
+
+/// After each event of every run of the third form, no client has more dirty pages of a server than
+/// its limit says.
+pub fn every_client_has_few_dirty_pages()
+    ensures { EveryClientHasFewDirtyPages }
 {}

@@ -1,0 +1,173 @@
+-- In every run of the third form, no client has more dirty pages of a server than it may.
+use Rattle.st_lemmas.proofs.Words
+use Words.{◌≡◌, ◌≤◌, ℕ, Bool, true, false, not, List, [], ◌∷◌, length, find, filter, Option, Some, None, refl, sym, ap, subst, inl, inr, arith, if◌then◌else◌, le-leb, leb-false, length-map, list_all}
+use Words.{ClientId, Config, DemandedFile, DirtyPage, HeldLock, Mode, PageNo, Stamp}
+use Words.modes
+use Words.Client as plain
+use Words.ClientLocks as locks
+use Words.ClientPages as pages
+use Words.ClientPages.{Pages}
+use Words.ClientPasses as passes
+use Words.ClientState.{Association, ClientSession, Turn}
+use Words.Keys.{put}
+use Words.Lists.{Has}
+use Words.World.{WorldClient, all_clients, site_of}
+use Rattle.st_lemmas.proofs.Puts.{length_put}
+use Rattle.st_lemmas.proofs.Tests.{filtered_no_longer}
+use Rattle.st_laws_steps.specs.Client.Client as client
+use Rattle.st_laws_steps.specs.Client.Losses.{Ends, Unknown, Passes, Hardens, Fails}
+use Rattle.st_third.specs.declared.event.ThirdEvent.{ThirdEvent}
+use Rattle.st_third.specs.declared.limits.Limits.{Limits}
+use Rattle.st_third.specs.Events as every
+use Rattle.st_third.specs.Events.{third_counted}
+use Rattle.st_third.specs.Limits.{is_dirty_full, limited_association}
+use Rattle.st_third.specs.Promises.{associations_at}
+use Rattle.st_third.specs.State.{Beside, ThirdTurn, session}
+use Rattle.st_third.specs.Steps as steps
+use Rattle.st_third.specs.Steps.{ThirdStep, ThirdTraced}
+use Rattle.st_third.specs.UsedOnce.{reduced}
+use Rattle.st_third.specs.World as worlds
+use Rattle.st_third.specs.World.{ThirdWorld, third_world}
+use Rattle.st_laws_third.specs.Changes.{Bounds, Continues, ThirdChange, Plainly, Says, Leaves, IsBeside, WaitsForRoom, Begins, GivesBack, Reduces, bounds}
+use Rattle.st_laws_third.specs.FewDirty.{DirtyPagesAreFew, EveryClientHasFewDirtyPages, has_few_dirty, has_few_dirty_at}
+use Rattle.st_laws_third.proofs.AllClients.{AllGood, good_after, good_first}
+use Rattle.st_laws_third.proofs.FewLocks.{Any, length_put_own}
+use Rattle.st_laws_third.proofs.Folds as folds
+use Rattle.st_laws_third.proofs.Folds.{Both}
+use Rattle.st_laws_third.proofs.Moves.{Moved}
+use Rattle.st_laws_third.proofs.ShortRuns.{all_true}
+use Rattle.st_laws_third.proofs.Sound.{Sound, kept_throughout_with, sound_after, sound_first}
+
+-- A page that is changed if there is room for it.
+
+-- of pages of which none is this one, all are others
+all_others : (p : DirtyPage → Bool) (xs : List DirtyPage) → find p xs ≡ None → length xs ≤ length (filter (λ x. not (p x)) xs)
+all_others p [] e = omega arith
+all_others p (x ∷ xs) e = go (p x) e (all_others p xs)
+  where
+    go : (b : Bool) → (if b then Some x else find p xs) ≡ None → (find p xs ≡ None → length xs ≤ length (filter (λ x. not (p x)) xs)) →
+        length (x ∷ xs) ≤ length (if not b then x ∷ filter (λ x. not (p x)) xs else filter (λ x. not (p x)) xs)
+    go true q h = cc q
+    go false q h = let l = h q in omega (arith, l)
+
+written_few : (n : ℕ) (ps : Pages) (ino : ℕ) (p : PageNo) (d : DirtyPage) → length ps.dirty ≤ n → is_dirty_full n ps ino p ≡ false →
+    length (put (pages.is_dirty_of ino p) d ps.dirty) ≤ n
+written_few n ps ino p d l e = go (find (pages.is_dirty_of ino p) ps.dirty) refl
+  where
+    go : (o : Option DirtyPage) → find (pages.is_dirty_of ino p) ps.dirty ≡ o → length (put (pages.is_dirty_of ino p) d ps.dirty) ≤ n
+    go (Some y) q = let a = length_put_own (pages.is_dirty_of ino p) d y ps.dirty q in omega (arith, a, l)
+    go None q =
+        let a = length_put (pages.is_dirty_of ino p) d ps.dirty in
+        let b = all_others (pages.is_dirty_of ino p) ps.dirty q in
+        let x = leb-false n (length (pages.without_dirty ino p ps.dirty)) e in omega (arith, a, b, x)
+
+-- At one server.
+
+abbrev FewAt : ℕ → Association → Type 0
+FewAt n a = length a.store.pages.dirty ≤ n
+
+plain_few : (n : ℕ) (within : Bounds) → within.dirty ≡ n → (now : Stamp) (t u : Turn) (c : client.Change now t u) → Continues within now t u c →
+    FewAt n t.here → FewAt n u.here
+unfolding passes.submit_read passes.submit_write passes.submit_command pages.written pages.forget_from pages.drop_from
+plain_few n within b now t _ (client.Says _ o p) k f = f
+plain_few n within b now t _ (client.Operates _ os) k f = f
+plain_few n within b now t _ (client.Answers _ os ops a) k f = f
+plain_few n within b now t _ (client.Greets _ g) k f = f
+plain_few n within b now t _ (client.TellsLost _ lost) k f = f
+plain_few n within b now t _ (client.Begins _ s a c d) k f = absurd k
+plain_few n within b now t _ (client.Follows _ s u e g) k f = f
+plain_few n within b now t _ (client.Learns _ e u h) k f = f
+plain_few n within b now t _ (client.Forgets _ ino p i) k f = f
+plain_few n within b now t _ (client.Caches _ clean) k f = f
+plain_few n within b now t _ (client.Writes _ s g p bytes x sv own y h i) k f =
+    written_few n t.here.store.pages g.ino p _ f (subst (λ z. is_dirty_full z t.here.store.pages g.ino p ≡ false) b k)
+plain_few n within b now t _ (client.Reads _ ino p m i clean) k f = f
+plain_few n within b now t _ (client.Submits _ s ino p d m e i w z) k f = f
+
+reduced_few : (n : ℕ) (t : ThirdTurn) (s : ClientSession) (d : DemandedFile) (ino : ℕ) → FewAt n t.plain.here → FewAt n (reduced s (Some d) ino t.plain).here
+unfolding passes.reduce_by passes.reduce_given passes.reduce_to locks.reduce_at locks.reduce_lock pages.forget_from pages.drop_from
+reduced_few n t s d ino f = held (locks.lock_of s.locks d.ino) d.to
+  where
+    held : (l : Option HeldLock) (to : Mode) →
+        FewAt n (passes.reduce_by t.plain s ino (locks.reduce_lock s.locks (record d { to = to }) l)).here
+    held None to = f
+    held (Some l) modes.None = f
+    held (Some l) modes.S = f
+    held (Some l) modes.X = f
+
+turn_few : (now : Stamp) (n : ℕ) (t u : ThirdTurn) → ThirdChange now t u → t.limits.dirty ≡ n → FewAt n t.plain.here → FewAt n u.plain.here
+unfolding Rattle.st_third.specs.State.say Rattle.st_third.specs.State.plainly
+turn_few now n t _ (Plainly _ u c p) l f = plain_few n (bounds t) l now t.plain u c p f
+turn_few now n t _ (Says _ o w) l f = f
+turn_few now n t _ (Leaves _ ls) l f = f
+turn_few now n t _ (IsBeside _ b x) l f = f
+turn_few now n t _ (WaitsForRoom _ k) l f = f
+turn_few now n t _ (Begins _ epoch stamp e x) l f = f
+turn_few now n t _ (GivesBack _ s x e h) l f = f
+turn_few now n t _ (Reduces _ s d ino e q i) l f = reduced_few n t s d ino f
+
+ends_few : (n : ℕ) (t : Turn) (number : ℕ) (ok : Bool) (v : Turn) → Ends number ok t v → FewAt n t.here → FewAt n v.here
+unfolding plain.hardened pages.harden pages.harden_at pages.harden_page pages.fail
+ends_few n t number ok _ Unknown f = f
+ends_few n t number ok _ (Passes x e o) f = f
+ends_few n t number ok _ (Hardens x v e o w q) f = go (pages.dirty_of t.here.store.pages x.ino x.page)
+  where
+    go : (d : Option DirtyPage) → length (pages.harden_at t.here.store.pages d).dirty ≤ n
+    go None = f
+    go (Some d) = let a = filtered_no_longer (λ y. not (pages.is_dirty_of d.ino d.page y)) t.here.store.pages.dirty in omega (arith, a, f)
+ends_few n t number ok _ (Fails x v e o w q) f =
+    let a = length-map t.here.store.pages.dirty (pages.fail_of x.ino x.page x.number) in omega (arith, a, f)
+
+abbrev Few : Config → Limits → Association → Beside → Type 0
+Few k m a b = FewAt m.dirty a
+
+few_law : (k : Config) (m : Limits) (now : Stamp) → folds.Keeps k m now (Few k m) Any
+few_law k m now =
+    record {
+      change = λ t u c e l i f. turn_few now m.dirty t u c (ap (λ (z : Limits). z.dirty) l) f;
+      word = λ t f o r. tt;
+      ends = λ t b number ok v x f. ends_few m.dirty t number ok v x f;
+      noted = λ t b f. f;
+      emptied = λ a. omega arith;
+      lost = λ s life. tt;
+      ended = λ s life end. tt;
+      at_once = λ op a. tt;
+    }
+
+few_begun : (k : Config) (m : Limits) (a : Association) → a.session ≡ None → a.store ≡ pages.empty_store → FewAt m.dirty (limited_association m a)
+few_begun k m a n e = let x : length a.store.pages.dirty ≡ 0 = ap (λ st. length st.pages.dirty) e in omega (arith, x)
+
+-- In a run.
+
+abbrev AllFew : ThirdWorld → Type 0
+AllFew w = AllGood Few Any few_law few_begun w
+
+both_few : (k : Config) (m : Limits) (as_ : List Association) (bs : List Beside) → Both (Few k m) as_ bs → (a : Association) → Has a as_ → has_few_dirty_at m a ≡ true
+both_few k m [] bs p a h = absurd h
+both_few k m (x ∷ xs) [] p a h = absurd p
+both_few k m (x ∷ xs) (b ∷ bs) p a (inl e) = subst (λ y. has_few_dirty_at m y ≡ true) (sym e) (le-leb _ m.dirty p.one)
+both_few k m (x ∷ xs) (b ∷ bs) p a (inr h) = both_few k m xs bs p.rest a h
+
+world_few : (w : ThirdWorld) → Sound w → AllFew w → (c : ClientId) → has_few_dirty w c ≡ true
+world_few w so f c = go (site_of w.world c) refl
+  where
+    go : (o : Option WorldClient) → site_of w.world c ≡ o → list_all (has_few_dirty_at w.limits) (associations_at o) ≡ true
+    go None e = refl
+    go (Some site) e =
+        let b = so.fits.there c.0 site e in
+        all_true (has_few_dirty_at w.limits) site.node.state.associations
+        (both_few w.world.config w.limits site.node.state.associations b.0.besides (f c.0 site b.0 e b.1))
+
+step_few : (past : List ThirdStep) (t : ThirdTraced) (e : ThirdEvent) → Sound t.third → AllFew t.third → worlds.refusal t.third e ≡ None →
+    Moved t.third (every.happens (third_counted t.third) e).third → AllFew (every.happens (third_counted t.third) e).third →
+    DirtyPagesAreFew past (steps.third_step t e (every.happens (third_counted t.third) e))
+step_few past t e so f q mv fv =
+    let v : ThirdWorld = (every.happens (third_counted t.third) e).third in
+    all_true (has_few_dirty v) (all_clients v.world) (λ c h. world_few v (sound_after t.third v so mv) fv c)
+
+pub every_client_has_few_dirty_pages : EveryClientHasFewDirtyPages
+every_client_has_few_dirty_pages k m clients servers disks blocks es =
+    kept_throughout_with AllFew (λ w v so f mv. good_after Few Any few_law few_begun w v so f mv) DirtyPagesAreFew
+    step_few es []
+    (steps.third_traced (third_world k m clients servers disks blocks 3)) (sound_first k m clients servers disks blocks)
+    (good_first Few Any few_law few_begun k m clients servers disks blocks)
