@@ -25,8 +25,8 @@ use Rattle.st_laws_third.proofs.Moves.{Becomes, Moved, Rests, Changes, Stepped, 
 use Rattle.st_laws_third.proofs.Sound.{Sound, apart, begun_fit, numbered_map}
 use Rattle.st_laws_third.proofs.Told.{Said_by}
 
-module _ (good : Config → Limits → Association → Beside → Type 0) (fine : ThirdOutput → Type 0)
-    (law : (k : Config) (m : Limits) (now : Stamp) → Keeps k m now (good k m) fine)
+module _ (good : Config → Limits → Association → Beside → Type 0) (fine : Limits → ThirdOutput → Type 0)
+    (law : (k : Config) (m : Limits) (now : Stamp) → Keeps k m now (good k m) (fine m))
     (begun : (k : Config) (m : Limits) (a : Association) → a.session ≡ None → a.store ≡ pages.empty_store → good k m (limited_association m a) fresh_beside)
   where
     -- So it is with each client.
@@ -63,7 +63,7 @@ module _ (good : Config → Limits → Association → Beside → Type 0) (fine 
           let x : ThirdClient = record { plain = old.node.state; beside = b } in
           subst (λ (s : ClientState). Both G s.associations d.besides) (sym u)
           (subst (λ (e : ClientBeside). Both G (client_step w.limits x now input).client.plain.associations e.besides) (sym z)
-          (client_holds w.world.config w.limits now G fine (law w.world.config w.limits now) x input (so.fits.sites c.0 old there).config
+          (client_holds w.world.config w.limits now G (fine w.limits) (law w.world.config w.limits now) x input (so.fits.sites c.0 old there).config
           (h c.0 old b there q)).0)
       becomes_good c old new d there (Crashed u z) =
           subst (λ (s : ClientState). Both G s.associations d.besides) (sym u)
@@ -104,10 +104,10 @@ module _ (good : Config → Limits → Association → Beside → Type 0) (fine 
 
     -- each word of a client
     pub good_said : (w : ThirdWorld) → Sound w → AllGood w → (c : ClientId) (site : WorldClient) (b : ClientBeside) (input : ThirdInput) →
-        site_of w.world c ≡ Some site → worlds.beside_of w c ≡ Some b → (o : ThirdOutput) → Has o (Said_by w c site b input) → fine o
+        site_of w.world c ≡ Some site → worlds.beside_of w c ≡ Some b → (o : ThirdOutput) → Has o (Said_by w c site b input) → fine w.limits o
     good_said w so h c site b input there q =
         let now : Stamp = clock_of w.world (nodes.Client c) in
-        (client_holds w.world.config w.limits now (good w.world.config w.limits) fine (law w.world.config w.limits now)
+        (client_holds w.world.config w.limits now (good w.world.config w.limits) (fine w.limits) (law w.world.config w.limits now)
         (record { plain = site.node.state; beside = b }) input (so.fits.sites c.0 site there).config (h c.0 site b there q)).1
 
     pub good_first : (k : Config) (m : Limits) (clients servers disks blocks : ℕ) → AllGood (third_world k m clients servers disks blocks 3)

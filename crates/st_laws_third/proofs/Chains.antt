@@ -3,6 +3,7 @@ use Rattle.st_lemmas.proofs.Words
 use Words.{◌≡◌, ◌≤◌, ℕ, Bool, true, false, List, [], ◌∷◌, ◌++◌, Option, Some, None, map, refl, sym, ap, ◌∙◌, subst, inl, inr, if◌then◌else◌, append_assoc, arith}
 use Words.{AppAnswer, Message, Operation, Output, Request, Stamp}
 use Words.Lists.{Has}
+use Words.ClientLocks.{LockCache}
 use Words.ClientPages as pages
 use Words.ClientPages.{Store}
 use Words.ClientPasses as passes
@@ -22,7 +23,7 @@ use Rattle.st_third.specs.declared.output.ThirdOutput.TheVariants as says
 use Rattle.st_third.specs.State as third
 use Rattle.st_third.specs.State.{ThirdTurn, plainly}
 use Rattle.st_laws_third.specs.Changes as sends
-use Rattle.st_laws_third.specs.Changes.{ThirdChange, ThirdChanges, AsksRight, Bounds, Continues, IsRun, Sends, SendsRight, Still, Then, Plainly, Says, Leaves, bounds, with_plain}
+use Rattle.st_laws_third.specs.Changes.{ThirdChange, ThirdChanges, AsksRight, Bounds, Continues, IsRun, IsWhole, Sends, SendsRight, Still, Then, Plainly, Says, Leaves, bounds, with_plain}
 
 pub one : {now : Stamp} {t u : ThirdTurn} → ThirdChange now t u → ThirdChanges now t u
 one {now} {t} {u} c = Then t u u c (Still u)
@@ -129,23 +130,32 @@ abbrev pub SessionRun : ℕ → Option ClientSession → Type 0
 SessionRun run None = Unit {0}
 SessionRun run (Some s) = RequestRun run s.requests.asked
 
+-- and if it is a reassertion, it is of all locks
+abbrev pub RequestRight : ℕ → LockCache → Option Request → Type 0
+RequestRight run c None = Unit {0}
+RequestRight run c (Some q) = (IsRun run q.body) × (IsWhole c q.body)
+
+abbrev pub SessionRight : ℕ → Option ClientSession → Type 0
+SessionRight run None = Unit {0}
+SessionRight run (Some s) = RequestRight run s.locks s.requests.asked
+
 abbrev AsksOnly : Stamp → Turn → Turn → Type 0
 AsksOnly now t u = passing.Changes [] passing.OnlyAsks now t u
 
 -- an outstanding request stays, so it was within the limit before
 asked_before : (run : ℕ) (st : Store) (s u : ClientSession) (c : SessionChange st s u) → passing.FollowsBy passing.OnlyAsks st s u c →
-    SessionRun run (Some u) → SessionRun run (Some s)
+    SessionRight run (Some u) → SessionRight run (Some s)
 asked_before run st s u (Keeps _ _ a) p f = false_not_true p.may
 asked_before run st s _ (DropsLock _ ino l) p f = absurd p
 asked_before run st s _ (IsReasserted _) p f = absurd p
 asked_before run st s _ (EndsRequest _ stamp) p f = absurd p
 asked_before run st s _ (NewEpoch _ epoch n) p f = absurd p
 asked_before run st s _ (AsksNew _ r now body cutting a c i) p f =
-    subst (RequestRun run) (sym (ap (λ (r : Requests). r.asked) (sym a.requests) ∙ i.free)) tt
-asked_before run st s _ (AsksAgain _ now q e) p f = subst (RequestRun run) (sym e) f
+    subst (RequestRight run s.locks) (sym (ap (λ (r : Requests). r.asked) (sym a.requests) ∙ i.free)) tt
+asked_before run st s _ (AsksAgain _ now q e) p f = subst (RequestRight run s.locks) (sym e) f
 
 run_before : (run : ℕ) (now : Stamp) (t u : Turn) (c : client.Change now t u) → passing.IsPassing [] passing.OnlyAsks now t u c →
-    SessionRun run u.here.session → SessionRun run t.here.session
+    SessionRight run u.here.session → SessionRight run t.here.session
 unfolding passes.submit_read passes.submit_write passes.submit_command
 run_before run now t _ (client.Says _ o p) q f = f
 run_before run now t _ (client.Operates _ os) q f = f
@@ -153,7 +163,7 @@ run_before run now t _ (client.Answers _ os ops a) q f = f
 run_before run now t _ (client.Greets _ g) q f = f
 run_before run now t _ (client.TellsLost _ lost) q f = f
 run_before run now t _ (client.Begins _ s a b c) q f = absurd q
-run_before run now t _ (client.Follows _ s u e g) q f = subst (SessionRun run) (sym e) (asked_before run t.here.store s u g.how q f)
+run_before run now t _ (client.Follows _ s u e g) q f = subst (SessionRight run) (sym e) (asked_before run t.here.store s u g.how q f)
 run_before run now t _ (client.Learns _ e a b) q f = f
 run_before run now t _ (client.Forgets _ ino p i) q f = f
 run_before run now t _ (client.Caches _ clean) q f = f
@@ -161,21 +171,21 @@ run_before run now t _ (client.Writes _ s f p bytes n se sv own m h) q g = g
 run_before run now t _ (client.Reads _ ino p m i clean) q f = f
 run_before run now t _ (client.Submits _ s ino p d m se e i w) q f = f
 
-runs_before : (run : ℕ) (now : Stamp) (t u : Turn) → AsksOnly now t u → SessionRun run u.here.session → SessionRun run t.here.session
+runs_before : (run : ℕ) (now : Stamp) (t u : Turn) → AsksOnly now t u → SessionRight run u.here.session → SessionRight run t.here.session
 runs_before run now t _ (Ends _) f = f
 runs_before run now t v (Goes _ u _ c p rest) f = run_before run now t u c p (runs_before run now u v rest f)
 
 -- a pass that only asks and changes no page, if what is asked at its end is within the limit
-pub old_asks : {within : Bounds} {now : Stamp} {t u : Turn} → AsksOnly now t u → SessionRun within.run u.here.session → version u ≤ version t →
+pub old_asks : {within : Bounds} {now : Stamp} {t u : Turn} → AsksOnly now t u → SessionRight within.run u.here.session → version u ≤ version t →
     Old within now t u
 unfolding cs.asking pages.written
 old_asks {within} {now} {t} {u} cs f l = record { list = go t u cs f l }
   where
-    follows : (st : Store) (s u : ClientSession) (c : SessionChange st s u) → SessionRun within.run (Some u) → AsksRight within.run st s u c
+    follows : (st : Store) (s u : ClientSession) (c : SessionChange st s u) → SessionRight within.run (Some u) → AsksRight within.run st s u c
     follows st s _ (AsksNew _ r now body cutting a c i) f = f
     follows st s u c f = tt
 
-    one : (t u : Turn) (c : client.Change now t u) → passing.IsPassing [] passing.OnlyAsks now t u c → SessionRun within.run u.here.session →
+    one : (t u : Turn) (c : client.Change now t u) → passing.IsPassing [] passing.OnlyAsks now t u c → SessionRight within.run u.here.session →
         version u ≤ version t → Continues within now t u c
     one t _ (client.Begins _ s a b c) p f l = p
     one t _ (client.Says _ o q) p f l = said [] now t o p
@@ -183,7 +193,7 @@ old_asks {within} {now} {t} {u} cs f l = record { list = go t u cs f l }
     one t _ (client.Writes _ s f q bytes n se sv own m h) p r l = absurd (omega (arith, l))
     one t u c p f l = tt
 
-    go : (t u : Turn) → AsksOnly now t u → SessionRun within.run u.here.session → version u ≤ version t → Only (Continues within) now t u
+    go : (t u : Turn) → AsksOnly now t u → SessionRight within.run u.here.session → version u ≤ version t → Only (Continues within) now t u
     go t _ (Ends _) f l = Ends t
     go t v (Goes _ u _ c p rest) f l =
         let a = version_rises [] passing.OnlyAsks now t u c p in

@@ -121,7 +121,7 @@ ends_few n t number ok _ (Fails x v e o w q) f =
 abbrev Few : Config → Limits → Association → Beside → Type 0
 Few k m a b = FewAt m.dirty a
 
-few_law : (k : Config) (m : Limits) (now : Stamp) → folds.Keeps k m now (Few k m) Any
+few_law : (k : Config) (m : Limits) (now : Stamp) → folds.Keeps k m now (Few k m) (Any m)
 few_law k m now =
     record {
       change = λ t u c e l i f. turn_few now m.dirty t u c (ap (λ (z : Limits). z.dirty) l) f;

@@ -126,14 +126,14 @@ locks_step xs c _ (LocksDemanded _ ino g to) = demands c ino g to
 -- At one server.
 
 -- a session has the limit of its world, and no more locks
-abbrev FewIn : Limits → Option ClientSession → Type 0
+abbrev pub FewIn : Limits → Option ClientSession → Type 0
 FewIn m None = Unit {0}
 FewIn m (Some s) = (s.locks.limit ≡ m.locks) × (length s.locks.rows ≤ s.locks.limit)
 
 few_then : (m : Limits) (s u : ClientSession) → Stays s.locks u.locks → FewIn m (Some s) → FewIn m (Some u)
 few_then m s u x f = (x.limit ∙ f.0, x.few f.1)
 
-change_few : (m : Limits) (st : Store) (s u : ClientSession) → SessionChange st s u → FewIn m (Some s) → FewIn m (Some u)
+pub change_few : (m : Limits) (st : Store) (s u : ClientSession) → SessionChange st s u → FewIn m (Some s) → FewIn m (Some u)
 unfolding locks.drop_lock locks.forget_demands
 change_few m st s u (Keeps _ _ a) f = few_then m s u (locks_step st.extents s.locks u.locks a.locks) f
 change_few m st s _ (DropsLock _ ino l) f =
@@ -160,7 +160,7 @@ plain_few m within now t _ (client.Writes _ s g p bytes x sv own y h i) n f = f
 plain_few m within now t _ (client.Reads _ ino p b i clean) n f = f
 plain_few m within now t _ (client.Submits _ s ino p d b e i k w) n f = f
 
-reduced_few : (m : Limits) (t : ThirdTurn) (s : ClientSession) (d : DemandedFile) (ino : ℕ) → session t ≡ Some s → FewIn m (session t) →
+pub reduced_few : (m : Limits) (t : ThirdTurn) (s : ClientSession) (d : DemandedFile) (ino : ℕ) → session t ≡ Some s → FewIn m (session t) →
     FewIn m (reduced s (Some d) ino t.plain).here.session
 unfolding passes.reduce_by passes.reduce_given passes.reduce_to locks.reduce_at locks.reduce_lock
 reduced_few m t s d ino e f = held (locks.lock_of s.locks d.ino) refl
@@ -192,10 +192,10 @@ ends_few m t number ok _ (Hardens x v e o w q) f = f
 ends_few m t number ok _ (Fails x v e o w q) f = f
 
 -- any word
-abbrev pub Any : ThirdOutput → Type 0
-Any o = Unit {0}
+abbrev pub Any : Limits → ThirdOutput → Type 0
+Any m o = Unit {0}
 
-few_law : (k : Config) (m : Limits) (now : Stamp) → folds.Keeps k m now (Few k m) Any
+few_law : (k : Config) (m : Limits) (now : Stamp) → folds.Keeps k m now (Few k m) (Any m)
 few_law k m now =
     record {
       change = λ t u c e l i f. turn_few now m t u c l f;

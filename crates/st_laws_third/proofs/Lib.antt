@@ -34,4 +34,5 @@ mod DemandsSeen
 mod ShortRuns
 mod FewLocks
 mod FewDirty
+mod FewRows
 mod Expiry

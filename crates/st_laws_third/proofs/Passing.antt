@@ -8,6 +8,7 @@ use Words.bodies
 use Words.Client as cl
 use Words.ClientLease as lease
 use Words.ClientLocks as locks
+use Words.ClientLocks.{LockCache}
 use Words.ClientPages as pages
 use Words.ClientPages.{Store}
 use Words.ClientPasses as passes
@@ -32,8 +33,8 @@ use Rattle.st_third.specs.Runs as runs
 use Rattle.st_third.specs.State as state
 use Rattle.st_third.specs.State.{ThirdTurn, here, is_active, session}
 use Rattle.st_third.specs.UsedOnce as used
-use Rattle.st_laws_third.specs.Changes.{ThirdChanges, ThirdPasses, Asks, Bounds, IsRun, Still, bounds}
-use Rattle.st_laws_third.proofs.Chains.{Old, RequestRun, SessionRun, both, by_rule, either, old_asks, old_both, old_either, old_one, old_pass, old_still, version}
+use Rattle.st_laws_third.specs.Changes.{ThirdChanges, ThirdPasses, Asks, Bounds, IsRun, IsWhole, Still, bounds}
+use Rattle.st_laws_third.proofs.Chains.{Old, RequestRight, SessionRight, both, by_rule, either, old_asks, old_both, old_either, old_one, old_pass, old_still, version}
 use Rattle.st_laws_third.proofs.GivingBack.{gives}
 use Rattle.st_laws_third.proofs.Leaving.{greets, leaves, reduces_all, serves_leave}
 use Rattle.st_laws_third.proofs.Rooms.{keeps, serves, writes}
@@ -222,32 +223,46 @@ module _ (now : Stamp) where
       go None w (Some x) a = a
       go (Some x) w a k = w
 
+  -- what an operation asks isn't a reassertion
+
+  abbrev AskingWhole : LockCache → Option passes.Asking → Type 0
+  AskingWhole c None = Unit {0}
+  AskingWhole c (Some a) = IsWhole c a.wanted.body
+
+  whole : (c : LockCache) (b : Body) → reasserts b ≡ false → IsWhole c b
+  whole c (bodies.Reassert rows) e = cc e
+  whole c b e = tt
+
+  asking_whole : (s : ClientSession) (st : Store) (a : Option passes.Asking) → AskingAt s st a → AskingWhole s.locks a
+  asking_whole s st None w = tt
+  asking_whole s st (Some a) w = whole s.locks a.wanted.body w.new
+
   -- What requests leave: what is outstanding is within the limit, and no page is changed.
   module _ (within : Bounds) (t : Turn) (s : ClientSession) (e : t.here.session ≡ Some s) where
     record Leaves (u : Turn) : Type 0 where
-      asked : SessionRun within.run u.here.session
+      asked : SessionRight within.run u.here.session
       version : version u ≤ version t
 
     sent_within : (u : Turn) (r : ClientSession) (body : Body) (cutting : Option ℕ) → version u ≤ version t → IsRun within.run body →
-        Leaves (passes.ask u r now body cutting)
+        IsWhole r.locks body → Leaves (passes.ask u r now body cutting)
     unfolding passes.ask send asking
-    sent_within u r body cutting l h = record { asked = h; version = l }
+    sent_within u r body cutting l h w = record { asked = (h, w); version = l }
 
     none_within : s.requests.asked ≡ None → Leaves t
-    none_within n = record { asked = subst (SessionRun within.run) (sym e) (subst (RequestRun within.run) (sym n) tt); version = omega arith }
+    none_within n = record { asked = subst (SessionRight within.run) (sym e) (subst (RequestRight within.run s.locks) (sym n) tt); version = omega arith }
 
     alive_within : s.requests.asked ≡ None → Leaves (passes.keep_alive t s now)
     unfolding passes.keep_alive
     alive_within n = go (lease.is_renewing (lease.phase_of t.config s.lease now))
       where
         go : (b : Bool) → Leaves (if b then passes.ask t s now bodies.KeepAlive None else t)
-        go true = sent_within t s bodies.KeepAlive None (omega arith) tt
+        go true = sent_within t s bodies.KeepAlive None (omega arith) tt tt
         go false = none_within n
 
-    for_within : (a : Option passes.Asking) → s.requests.asked ≡ None → AskingRun within.run a → Leaves (passes.ask_for_or t s now a)
+    for_within : (a : Option passes.Asking) → s.requests.asked ≡ None → AskingRun within.run a → AskingWhole s.locks a → Leaves (passes.ask_for_or t s now a)
     unfolding passes.ask_for_or passes.ask_for pages.forget_from pages.drop_from
-    for_within None n h = alive_within n
-    for_within (Some a) n h = sent_within _ s a.wanted.body _ (cut a.wanted.cut) h
+    for_within None n h w = alive_within n
+    for_within (Some a) n h w = sent_within _ s a.wanted.body _ (cut a.wanted.cut) h w
       where
         cut : (c : Option (ℕ × PageNo)) → (passes.cut_store c t.here.store).pages.next_version ≤ version t
         cut None = omega arith
@@ -265,10 +280,10 @@ module _ (now : Stamp) where
 
         by : s.due ≡ false → (rs : List Release) → s.releases ≡ rs → Leaves (passes.ask_by t s now rs)
         by d [] r = next d r (is_serving t.config s now) refl
-        by d (x ∷ xs) r = sent_within t (record s { releases = xs }) (bodies.Released x.ino x.g x.to) None (omega arith) tt
+        by d (x ∷ xs) r = sent_within t (record s { releases = xs }) (bodies.Released x.ino x.g x.to) None (omega arith) tt tt
 
         go : (b : Bool) → s.due ≡ b → Leaves (if b then passes.reassert t s now else passes.ask_by t s now s.releases)
-        go true d = sent_within t s (bodies.Reassert (locks.all_locks s.locks)) None (omega arith) tt
+        go true d = sent_within t s (bodies.Reassert (locks.all_locks s.locks)) None (omega arith) tt refl
         go false d = by d s.releases refl
 
     asks_again : (tick : Bool) (q : Request) → s.requests.asked ≡ Some q → Old within now t (passes.repeat t s now tick q)
@@ -318,7 +333,8 @@ module _ (now : Stamp) where
           either (third.may_operations_ask t s now) t _ _
           (λ m. let z = is_free t s m in let a = third.first_asking t s now t.plain.operations in
           by_rule t (third.asked_for s now a)
-          (let x = for_within (bounds t) t.plain s e a z.0 (first_within t s t.plain.operations) in
+          (let x = for_within (bounds t) t.plain s e a z.0 (first_within t s t.plain.operations)
+          (asking_whole s t.plain.here.store a (wants_first t s t.plain.operations)) in
           old_asks (changes_by_ask_for_or now t.plain s a e z.0 z.1 (wants_first t s t.plain.operations)) x.asked x.version))
           (λ m. by_rule t (passes.requests now tick) (asks_else (bounds t) t.plain s e tick (may_not s m)))
 

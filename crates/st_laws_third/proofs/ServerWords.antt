@@ -1,4 +1,4 @@
--- What a server says: replies, grants, and demands, which have stamp 0; and no requests for blocks. The replies that it keeps are replies.
+-- What a server says: replies, grants, and demands, which have stamp 0; and no requests. The replies that it keeps are replies.
 use Rattle.st_lemmas.proofs.Words
 use Words.{◌≡◌, ◌⊎◌, ℕ, Bool, true, false, List, [], ◌∷◌, Some, None, refl, sym, subst, inl, inr, if◌then◌else◌}
 use Words.{AcceptRefusal, Body, ClientId, GrantNo, Header, Life, Message, Mode, Output, ServerInput, Session, SessionState, Stamp}
@@ -29,6 +29,7 @@ use Rattle.st_trace.proofs.Server.Walk.{walk_of}
 abbrev pub IsReply : Body → Type 0
 IsReply (bodies.Demand ino g to) = ⊥
 IsReply (bodies.Allocate ino g p count) = ⊥
+IsReply (bodies.Reassert rows) = ⊥
 IsReply b = Unit {0}
 
 -- a demand has stamp 0
@@ -36,14 +37,16 @@ abbrev pub Stamped : ℕ → Body → Type 0
 Stamped stamp (bodies.Demand ino g to) = stamp ≡ 0
 Stamped stamp b = Unit {0}
 
--- no blocks are requested
+-- neither blocks are requested nor locks reasserted
 abbrev pub NoRun : Body → Type 0
 NoRun (bodies.Allocate ino g p count) = ⊥
+NoRun (bodies.Reassert rows) = ⊥
 NoRun b = Unit {0}
 
 reply_stamped : (n : ℕ) (b : Body) → IsReply b → (Stamped n b) × (NoRun b)
 reply_stamped n (bodies.Demand ino g to) r = absurd r
 reply_stamped n (bodies.Allocate ino g p count) r = absurd r
+reply_stamped n (bodies.Reassert rows) r = absurd r
 reply_stamped n b r = (tt, tt)
 
 abbrev pub WordFine : Output → Type 0

@@ -77,7 +77,7 @@ change_asked run st s _ (DropsLock _ ino x) r l f = f
 change_asked run st s _ (IsReasserted _) r l f = f
 change_asked run st s _ (EndsRequest _ stamp) r l f = tt
 change_asked run st s _ (NewEpoch _ epoch n) r l f = tt
-change_asked run st s _ (AsksNew _ x now body cutting a c i) r l f = wider run RUN body l r
+change_asked run st s _ (AsksNew _ x now body cutting a c i) r l f = wider run RUN body l r.0
 change_asked run st s _ (AsksAgain _ now q e) r l f = subst (RequestRun RUN) e f
 
 plain_asked : (within : Bounds) (now : Stamp) (t u : Turn) (c : client.Change now t u) → Continues within now t u c → within.run ≤ RUN → SessionRun RUN t.here.session →
@@ -165,8 +165,12 @@ short_begun : (k : Config) (m : Limits) (a : Association) → a.session ≡ None
     IsShort (Rattle.st_third.specs.Limits.limited_association m a) Rattle.st_third.specs.State.fresh_beside
 short_begun k m a n e = record { asked = subst (SessionRun RUN) (sym n) tt; run = omega arith }
 
+-- under any limits
+abbrev WordShortBy : Limits → ThirdOutput → Type 0
+WordShortBy m o = WordShort o
+
 abbrev AllShort : ThirdWorld → Type 0
-AllShort w = AllGood Short WordShort short_law short_begun w
+AllShort w = AllGood Short WordShortBy short_law short_begun w
 
 -- What is observed.
 
@@ -218,7 +222,7 @@ step_short past t e so ma p sh q mv = all_true is_short _ (λ o h. one o (happen
 
     one : (o : ThirdObservation) → Told w o → is_short o ≡ true
     one _ (ByClient c site b input x o there i h s) =
-        seen_short c x o s (good_said Short WordShort short_law short_begun w counted_sound sh c site b input there i x h)
+        seen_short c x o s (good_said Short WordShortBy short_law short_begun w counted_sound sh c site b input there i x h)
     one _ (ByServer s node input x o there h y) =
         server_short s x o y
         ((server_fine w.world.form node.state (Words.World.clock_of w.world (Words.nodes.Server s)) input (ma.kept s.0 node there)).said x h)
@@ -227,7 +231,7 @@ step_short past t e so ma p sh q mv = all_true is_short _ (λ o h. one o (happen
 pub every_allocation_is_short : EveryAllocationIsShort
 unfolding most_clients
 every_allocation_is_short k m clients servers disks blocks es h =
-    mail_throughout AllShort (λ w v so g mv. good_after Short WordShort short_law short_begun w v so g mv) RunsAreShort step_short es []
+    mail_throughout AllShort (λ w v so g mv. good_after Short WordShortBy short_law short_begun w v so g mv) RunsAreShort step_short es []
     (steps.third_traced (third_world k m clients servers disks blocks 3)) (sound_first k m clients servers disks blocks)
     (mailed_first k m clients servers disks blocks) (people_first k m clients servers disks blocks (within_most 1 64 clients h.some_clients))
-    (good_first Short WordShort short_law short_begun k m clients servers disks blocks)
+    (good_first Short WordShortBy short_law short_begun k m clients servers disks blocks)

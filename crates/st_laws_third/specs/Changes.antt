@@ -13,6 +13,8 @@ use Rattle.st_rules.specs.declared.client.DemandedFile.{DemandedFile}
 use Rattle.st_rules.specs.declared.client.Request.{Request}
 use Rattle.st_rules.specs.declared.client.HeldLock.{HeldLock}
 use Rattle.st_rules.specs.ClientLease as lease
+use Rattle.st_rules.specs.ClientLocks as locks
+use Rattle.st_rules.specs.ClientLocks.{LockCache}
 use Rattle.st_rules.specs.ClientPages as pages
 use Rattle.st_rules.specs.ClientPages.{Store}
 use Rattle.st_rules.specs.ClientReplies as replies
@@ -70,9 +72,14 @@ abbrev pub IsRun : ℕ → Body → Type 0
 IsRun run (bodies.Allocate ino g p count) = count ≤ pred run + 1
 IsRun run b = Unit {0}
 
+-- a reassertion is of all locks
+abbrev pub IsWhole : LockCache → Body → Type 0
+IsWhole c (bodies.Reassert rows) = rows ≡ locks.all_locks c
+IsWhole c b = Unit {0}
+
 -- so is a new request
 abbrev pub AsksRight : (run : ℕ) (st : Store) (s u : ClientSession) → SessionChange st s u → Type 0
-AsksRight run st s _ (AsksNew _ r now body cutting a c i) = IsRun run body
+AsksRight run st s _ (AsksNew _ r now body cutting a c i) = (IsRun run body) × (IsWhole r.locks body)
 AsksRight run st s u c = Unit {0}
 
 -- What bounds a change: how many pages a run may have, and how many pages may be dirty.

@@ -12,3 +12,4 @@ pub mod FirstPromises
 pub mod Expiry
 pub mod FewLocks
 pub mod FewDirty
+pub mod FewRows

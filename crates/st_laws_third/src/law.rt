@@ -3,6 +3,7 @@ ghost use Rattle.st_laws_third.specs.DemandsSeen.{EveryDemandIsSeen};
 ghost use Rattle.st_laws_third.specs.Expiry.{EveryExpiredLeaseLeavesNothing};
 ghost use Rattle.st_laws_third.specs.FewDirty.{EveryClientHasFewDirtyPages};
 ghost use Rattle.st_laws_third.specs.FewLocks.{EveryClientHasFewLocks};
+ghost use Rattle.st_laws_third.specs.FewRows.{EveryReassertionIsFew};
 ghost use Rattle.st_laws_third.specs.FirstForms.{FirstHeadsStay, FirstRunsStay, FirstStepsStay};
 ghost use Rattle.st_laws_third.specs.FirstPromises.{EveryHardEntryStays};
 ghost use Rattle.st_laws_third.specs.Invariants.{EveryClientFits};
@@ -109,4 +110,10 @@ pub fn every_client_has_few_locks()
 /// its limit says.
 pub fn every_client_has_few_dirty_pages()
     ensures { EveryClientHasFewDirtyPages }
+{}
+
+/// In every run of the third form, no message reasserts more locks than a client may have of a
+/// server.
+pub fn every_reassertion_is_few()
+    ensures { EveryReassertionIsFew }
 {}
