@@ -20,7 +20,8 @@ use Rattle.st_server_states.proofs.NamesKept.{each_last}
 
 -- Births rise.
 
-born_push : (first : ℕ) (es : List Extent) (e : Extent) (births : ℕ) → AreBorn first es births → e.birth ≡ births + 1 → AreBorn first (es ++ e ∷ []) (births + 1)
+born_push : (first : ℕ) (es : List Extent) (e : Extent) (births : ℕ) → AreBorn first es births → e.birth ≡ births + 1 →
+    AreBorn first (es ++ e ∷ []) (births + 1)
 born_push first [] e births a q = (omega (arith, a, q), omega (arith, q))
 born_push first (d ∷ es) e births a q = (a.0, born_push d.birth es e births a.1 q)
 
@@ -115,7 +116,8 @@ unfolding numbers
 range_low first zero l = tt
 range_low first (suc count) l = (omega (arith, l), range_low (first + 1) count (omega (arith, l)))
 
-unmapped_low : (x : Extents) (f : FileId) (p : PageNo) (count : ℕ) → p.0 + count ≤ 1048576 → AllByRecursion (λ (q : PageNo). q.0 < 1048576) (extents.unmapped x f p count)
+unmapped_low : (x : Extents) (f : FileId) (p : PageNo) (count : ℕ) → p.0 + count ≤ 1048576 →
+    AllByRecursion (λ (q : PageNo). q.0 < 1048576) (extents.unmapped x f p count)
 unmapped_low x f p count l =
     every_filter (λ (q : PageNo). q.0 < 1048576) (λ (q : PageNo). not (extents.is_mapped x f q)) (extents.pages_from p count) (range_low p.0 count l)
 
@@ -147,7 +149,8 @@ module _ (s : Shape) (x : Extents) (m : ExtentsMayBe s x) (f : FileId) where
   allocate_may p count fits range few room =
       let ps : List PageNo = extents.unmapped x f p count in
       let all = told.allocated x f p count few m.mapped room in
-      cond_either (λ (r : Result Extents AllocateRefusal). told.Allocated r → MayBeBy s r) (nat_le (length ps) (extents.free x)) (Ok (extents.place_pages f ps x))
+      cond_either (λ (r : Result Extents AllocateRefusal). told.Allocated r → MayBeBy s r) (nat_le (length ps) (extents.free x))
+      (Ok (extents.place_pages f ps x))
       (Err (space.NoSpace (extents.free x) (length ps)))
       (λ q told_so.
       let after = pages_placed f fits ps x (unmapped_low x f p count range) (placed s x m) in
@@ -191,7 +194,8 @@ flat_few g k (y ∷ ys) =
 
 disk_few : (x : Extents) → AreMapped x → (place : ℕ) → length (extents.blocks_of x place) ≤ 4096
 disk_few x h place =
-    let a : length (map (extents.block_at place) (numbers 0 x.blocks)) ≡ length (numbers 0 x.blocks) = length_map (extents.block_at place) (numbers 0 x.blocks) in
+    let a : length (map (extents.block_at place) (numbers 0 x.blocks)) ≡ length (numbers 0 x.blocks) =
+    length_map (extents.block_at place) (numbers 0 x.blocks) in
     let b : length (numbers 0 x.blocks) ≡ x.blocks = numbers_length 0 x.blocks in
     omega (arith, a, b, h.blocks)
 

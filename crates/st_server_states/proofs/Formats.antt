@@ -28,7 +28,19 @@ fresh_names_may = record {
     order = fresh_in_order;
     next = omega arith;
     limit = omega arith;
-    entries = (fresh_fits 2 (omega arith), (fresh_fits 3 (omega arith), (fresh_fits 4 (omega arith), (fresh_fits 5 (omega arith), (fresh_fits 6 (omega arith), (fresh_fits 7 (omega arith), (fresh_fits 8 (omega arith), (fresh_fits 9 (omega arith), tt))))))));
+    entries = (
+      fresh_fits 2 (omega arith),
+      (
+        fresh_fits 3 (omega arith),
+        (
+          fresh_fits 4 (omega arith),
+          (
+            fresh_fits 5 (omega arith),
+            (fresh_fits 6 (omega arith), (fresh_fits 7 (omega arith), (fresh_fits 8 (omega arith), (fresh_fits 9 (omega arith), tt)))),
+          ),
+        ),
+      ),
+    );
   };
   named = record { entries = refl; next = omega arith };
 }
@@ -50,7 +62,8 @@ fresh_may s limits = joined s (journal.fresh s) limits (omega arith) fresh_names
 
 -- The format.
 module _ (s : Shape) (k : Keeps s) where
-  pub by_stable : (t : State s) (x : RangedChange) (o : Option Stable) (e : changed t.stable x.change ≡ o) → option_map (λ (u : State s). u.stable) (state_by s k t x o e) ≡ o
+  pub by_stable : (t : State s) (x : RangedChange) (o : Option Stable) (e : changed t.stable x.change ≡ o) →
+      option_map (λ (u : State s). u.stable) (state_by s k t x o e) ≡ o
   by_stable t x None e = refl
   by_stable t x (Some u) e = refl
 

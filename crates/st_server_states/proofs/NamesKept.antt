@@ -35,7 +35,8 @@ IsBrief name = length name < 2 ^ 64
 
 module _ (n : Names) (o : HaveOrder n) where
   -- An entry is added.
-  added_order : (dir : ℕ) (name : List ℕ) (directory : Bool) → n.next < 2 ^ 32 - 1 → dir < 2 ^ 32 → IsBrief name → is_some (names.entry_at n dir name) ≡ false → names.live_inodes n < n.limit →
+  added_order : (dir : ℕ) (name : List ℕ) (directory : Bool) → n.next < 2 ^ 32 - 1 → dir < 2 ^ 32 → IsBrief name → is_some (names.entry_at n dir name) ≡ false →
+      names.live_inodes n < n.limit →
       HaveOrder (names.added n dir name directory).names
   unfolding names.added
   added_order dir name directory b d l new few = record {
@@ -45,7 +46,8 @@ module _ (n : Names) (o : HaveOrder n) where
     entries = each_last EntryFits n.entries (names.new_entry n dir name directory) o.entries (record { dir = d; ino = omega (arith, b); name = l });
   }
 
-  add_at_order : (dir : ℕ) (name : List ℕ) (directory : Bool) (p : Option EntryRefusal) → n.next < 2 ^ 32 - 1 → dir < 2 ^ 32 → IsBrief name → OrderBy (names.add_at n dir name directory p)
+  add_at_order : (dir : ℕ) (name : List ℕ) (directory : Bool) (p : Option EntryRefusal) → n.next < 2 ^ 32 - 1 → dir < 2 ^ 32 → IsBrief name →
+      OrderBy (names.add_at n dir name directory p)
   unfolding names.add_at names.add_beside names.add_new
   add_at_order dir name directory (Some r) b d l = tt
   add_at_order dir name directory None b d l =

@@ -53,7 +53,8 @@ page_fits e low good f =
       birth = ltb-true e.birth (2 ^ 64) both.1;
     }
 
-pages_fit : (es : List Extent) → AllByRecursion IsLow es → list_all is_good_extent es ≡ true → AllByRecursion (λ (e : Extent). FileFits e.file) es → AllByRecursion PageFits es
+pages_fit : (es : List Extent) → AllByRecursion IsLow es → list_all is_good_extent es ≡ true → AllByRecursion (λ (e : Extent). FileFits e.file) es →
+    AllByRecursion PageFits es
 pages_fit [] low good f = tt
 pages_fit (e ∷ es) low good f =
     let both = and_parts (is_good_extent e) (list_all is_good_extent es) good in (page_fits e low.0 both.0 f.0, pages_fit es low.1 both.1 f.1)
@@ -67,7 +68,8 @@ names_may s t m = record {
 extents_may : (s : Shape) (t : Stable) → MayHave s t → ExtentsMayBe s t.extents
 extents_may s t m = record { shape = m.shape; can = m.can.extents; mapped = m.mapped; files = files_of t.extents.rows m.fits.pages }
 
-pub joined : (s : Shape) (t : Stable) → IsWithinLimits s.server.0 s.servers s.disks s.blocks → t.epoch.0 < 2 ^ 64 → NamesMayBe t.names → ExtentsMayBe s t.extents → MayHave s t
+pub joined : (s : Shape) (t : Stable) → IsWithinLimits s.server.0 s.servers s.disks s.blocks → t.epoch.0 < 2 ^ 64 → NamesMayBe t.names →
+    ExtentsMayBe s t.extents → MayHave s t
 joined s t limits epoch n x =
     let few = n.order.order.few in
     let limit = n.order.limit in
@@ -100,7 +102,8 @@ pub record IsApplied (t u : Stable) (x : Change) : Type 0 where
   pub room : has_room t x ≡ true
   pub applied : apply t x ≡ Ok u
 
-applied_by : (t u : Stable) (x : Change) (b : Bool) (r : Result Stable ChangeRefusal) → has_room t x ≡ b → apply t x ≡ r → cond b (kept r) None ≡ Some u → IsApplied t u x
+applied_by : (t u : Stable) (x : Change) (b : Bool) (r : Result Stable ChangeRefusal) → has_room t x ≡ b → apply t x ≡ r → cond b (kept r) None ≡ Some u →
+    IsApplied t u x
 applied_by t u x true (Ok v) room e q = let same : v ≡ u = cc in record { room = room; applied = subst (λ (w : Stable). apply t x ≡ Ok w) same e }
 applied_by t u x true (Err r) room e q = absurd cc
 applied_by t u x false r room e q = absurd cc
@@ -201,7 +204,8 @@ module _ (s : Shape) (t u : Stable) (m : MayHave s t) where
 
   -- other extents
   by_pages : (r : Result Extents AllocateRefusal) → pages.MayBeBy s r → (x : Extents) → r ≡ Ok x → May (record t { extents = x })
-  by_pages (Ok y) h x e = let same : y ≡ x = cc in subst (λ (z : Extents). May (record t { extents = z })) same (joined s (record t { extents = y }) m.limits epochs (names_may s t m) h)
+  by_pages (Ok y) h x e = let same : y ≡ x = cc in subst (λ (z : Extents). May (record t { extents = z })) same
+      (joined s (record t { extents = y }) m.limits epochs (names_may s t m) h)
   by_pages (Err r) h x e = absurd cc
 
   file_fits : (ino : ℕ) → ino < 2 ^ 32 → FileFits (journal.file t ino)
@@ -214,11 +218,13 @@ module _ (s : Shape) (t u : Stable) (m : MayHave s t) where
   ino_small : (ino : ℕ) → changes.is_ino ino ≡ true → ino < 2 ^ 32
   ino_small ino e = let l = leb-true ino 4294967295 (and_parts (nat_le 1 ino) (nat_le ino 4294967295) e).1 in omega (arith, l)
 
-  allocate_may : (ino : ℕ) (page : PageNo) (count : ℕ) → fits (kinds.Allocate ino page count) ≡ true → t.extents.births < 2 ^ 62 → journal.allocate t ino page count ≡ Ok u → May u
+  allocate_may : (ino : ℕ) (page : PageNo) (count : ℕ) → fits (kinds.Allocate ino page count) ≡ true → t.extents.births < 2 ^ 62 →
+      journal.allocate t ino page count ≡ Ok u → May u
   unfolding fits
   allocate_may ino page count f room e =
       let all = and_parts (changes.is_ino ino) _ f in
-      let c = and_parts (changes.between 1 64 count) (nat_le (page.0 + count) 1048576) (and_parts (changes.is_page page.0) (changes.is_count page.0 count) all.1).1 in
+      let c = and_parts (changes.between 1 64 count) (nat_le (page.0 + count) 1048576)
+      (and_parts (changes.is_page page.0) (changes.is_count page.0 count) all.1).1 in
       let few = leb-true count 64 (and_parts (nat_le 1 count) (nat_le count 64) c.0).1 in
       allocated_has t u May ino page count e
       (by_pages (extents.allocate t.extents (journal.file t ino) page count)

@@ -1,0 +1,5 @@
+pub mod Files
+pub mod Changed
+pub mod Beside
+pub mod Kept
+pub mod Opened
