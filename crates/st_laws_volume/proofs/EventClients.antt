@@ -233,6 +233,8 @@ module _ (t : World) (e : Event) where
           says = ap (λ (n : cl.ClientNode). (ev.client_says_all c n.state (cl.client_step n.state now i).out sc0).seen) (sym same);
           after = after;
           left = ap (λ zs. numbered zs c.0) clients ∙ own;
+          time = ap (λ ts. Rattle.std.specs.Prelude.unwrap_or {T = Stamp} (numbered ts c.0) (record { 0 = 0 })) (fl.clocks ∙ said.clocks);
+          runs_on = runs;
           state_is = ap (λ (n : cl.ClientNode). (cl.client_step n.state now i).state) (sym same);
           gives =
               (all_give c site.node.state turn.out sc0).is
