@@ -91,6 +91,7 @@ pub mod OpenRequests
 pub mod OpenResults
 pub mod Options
 pub mod OrphanResults
+pub mod OtherAnswers
 pub mod OwedEntries
 pub mod OwedHolds
 pub mod OwedLines

@@ -36,6 +36,36 @@ abbrev pub is_lost_answer : VolumeStep → Bool
 is_lost_answer (kinds.Answered c op (answers.Lost rows)) = true
 is_lost_answer it = false
 
+-- a page is read
+abbrev pub is_read_answer : VolumeStep → Bool
+is_read_answer (kinds.Answered c op (answers.Read bytes)) = true
+is_read_answer it = false
+
+-- the file isn't there, or its server isn't
+abbrev pub is_no_file : VolumeStep → Bool
+is_no_file (kinds.Answered c op answers.NoFile) = true
+is_no_file it = false
+
+-- the server has no room for the page
+abbrev pub is_no_space : VolumeStep → Bool
+is_no_space (kinds.Answered c op (answers.NoSpace free wanted)) = true
+is_no_space it = false
+
+-- the client may have no more dirty pages
+abbrev pub is_dirty_full_answer : VolumeStep → Bool
+is_dirty_full_answer (kinds.Answered c op answers.DirtyFull) = true
+is_dirty_full_answer it = false
+
+-- the client doesn't hold the file
+abbrev pub is_not_holder : VolumeStep → Bool
+is_not_holder (kinds.Answered c op answers.NotHolder) = true
+is_not_holder it = false
+
+-- the client may have no more locks
+abbrev pub is_too_many_locks : VolumeStep → Bool
+is_too_many_locks (kinds.Answered c op answers.TooManyLocks) = true
+is_too_many_locks it = false
+
 -- An answer other than `written` goes to a cut, to an ask for a name, or to an ask that has no result.
 abbrev pub ResultFits : VolumeStep → Volume → Type 0
 ResultFits (kinds.Answered c op answers.Written) v = ⊤

@@ -21,6 +21,7 @@ ghost use Rattle.st_laws_volume.specs.NoFileAnswers.{FilesAreMissing};
 ghost use Rattle.st_laws_volume.specs.NoSpaceAnswers.{ServersWereFull};
 ghost use Rattle.st_laws_volume.specs.NotHolderAnswers.{LocksWereMissing};
 ghost use Rattle.st_laws_volume.specs.Notices.{AsksHaveNoticed};
+ghost use Rattle.st_laws_volume.specs.OtherAnswers.{OtherAnswersAreEnough};
 ghost use Rattle.st_laws_volume.specs.OwedRows.{OwedRowsNameEntries};
 ghost use Rattle.st_laws_volume.specs.Reads.{PagesAgree, ReadsGiveThePages};
 ghost use Rattle.st_laws_volume.specs.Refusals.{GoneFilesStayGone, NoticesStay, RefusalsAreNoticed, RepliesStayNoticed};
@@ -138,6 +139,13 @@ pub fn trees_agree()
 /// log has its line in that event.
 pub fn kinds_are_enough()
     ensures { KindsAreEnough }
+{}
+
+/// Every run is a run of the volume, if in every run the volume takes the answers of six kinds, if
+/// it has taken all steps before them: those that tell a read's bytes, `nofile`, `nospace`,
+/// `dirtyfull`, `notholder` and `toomanylocks`. All else is proved.
+pub fn other_answers_are_enough()
+    ensures { OtherAnswersAreEnough }
 {}
 
 /// In every run the volume takes each crash of a client, start of a server and failed read, if
