@@ -55,6 +55,7 @@ pub mod FatesTaken
 pub mod FewAsks
 pub mod FileReplies
 pub mod FullAnswers
+pub mod FullNotices
 pub mod GoneFiles
 pub mod GoneLives
 pub mod HardAnswers

@@ -1,4 +1,4 @@
--- What open asks have noticed of names they don't forget: no step of the volume takes such a mark from an ask that had come before.
+-- What open asks have noticed they don't forget: no step of the volume takes such a mark from an ask that had come before.
 use Rattle.std.proofs.Common.{◌≡◌, ◌≤◌, arith, ◌⊎◌, ℕ, ◌+◌, Bool, true, false, not, ◌&&◌, ◌||◌, ◌==◌, List, [], ◌∷◌, ◌++◌, length, map, Option, Some, None, refl, sym, ap, ◌∙◌, subst, inl, inr, if◌then◌else◌}
 use Rattle.std.specs.Prelude.{cond, filter, find, is_some, nat_le, nat_lt, option_and_then, option_map}
 use Rattle.std.specs.List.{list_all, list_any}
@@ -21,7 +21,7 @@ use Rattle.st_volume.specs.declared.step.VolumeStep.{VolumeStep}
 use Rattle.st_volume.specs.declared.step.VolumeStep.TheVariants as kinds
 use Rattle.st_volume.specs.Pages.{Entry, is_any, is_cause, place_of}
 use Rattle.st_volume.specs.Volume as volume
-use Rattle.st_volume.specs.Volume.{Pending, Volume, acts, after_answer, answered, answers_so, arrived, closed, done, effect, ends, exists, failed, fails, file_of, is_ask, is_before, is_of_client, is_read_of, is_sync_of, names_other, new_ask, notice, noticing, numbered, open_of, resulting, run, server_of, takes, tree_of, with_changed, with_fate}
+use Rattle.st_volume.specs.Volume.{Pending, Volume, acts, after_answer, answered, answers_so, arrived, closed, done, effect, ends, exists, failed, fails, file_of, is_ask, is_before, is_full, is_of_client, is_read_of, is_sync_of, names_other, new_ask, notice, noticing, numbered, open_of, resulting, run, server_of, takes, tree_of, with_changed, with_fate}
 
 all_mapped : (p : Pending → Bool) (f : Pending → Pending) → ((a : Pending) → p a ≡ true → p (f a) ≡ true) → (xs : List Pending) →
     list_all p xs ≡ true → list_all p (map f xs) ≡ true
@@ -38,14 +38,15 @@ all_joined p xs a h k = all_pass p (xs ++ a ∷ []) (λ b i. go b (has_append xs
     go b (inr (inl e)) = ap p e ∙ k
     go b (inr (inr i)) = absurd i
 
--- A mark that is made of what an ask has noticed of names, and that lasts while more is noticed.
-abbrev pub Lasts : (Bool → Bool → Bool) → Type 0
-Lasts pick = (p q x y : Bool) → pick p q ≡ true → pick (p || x) (q || y) ≡ true
+-- A mark that is made of what an ask has noticed (that its file is missing, that its server is full, and that another file has the name), and that lasts while
+-- more is noticed.
+abbrev pub Lasts : (Bool → Bool → Bool → Bool) → Type 0
+Lasts pick = (p q r x y z : Bool) → pick p q r ≡ true → pick (p || x) (q || y) (r || z) ≡ true
 
 -- The open asks of a client that pass a test, and were among its first ones, have a mark; and the client had as many asks.
-module _ (c : ClientId) (n : ℕ) (which : Ask → Bool) (pick : Bool → Bool → Bool) (lasts : Lasts pick) where
+module _ (c : ClientId) (n : ℕ) (which : Ask → Bool) (pick : Bool → Bool → Bool → Bool) (lasts : Lasts pick) where
   abbrev pub marked : Pending → Bool
-  marked a = not (which a.ask) || (not (is_of_client c a && nat_le a.op n) || pick a.missed a.other)
+  marked a = not (which a.ask) || (not (is_of_client c a && nat_le a.op n) || pick a.missed a.full a.other)
 
   abbrev pub AllMarked : Volume → Type 0
   AllMarked v = (list_all marked v.pending ≡ true) × (n ≤ length (filter (λ x. x.0.0 == c.0) v.asked))
@@ -53,12 +54,12 @@ module _ (c : ClientId) (n : ℕ) (which : Ask → Bool) (pick : Bool → Bool �
   noticed : (v : Volume) → AllMarked v → AllMarked (notice v)
   noticed v h = (all_mapped marked (noticing v) (λ a k. one a (which a.ask) (is_of_client c a && nat_le a.op n) k) v.pending h.0, h.1)
     where
-      one : (a : Pending) (s t : Bool) → (not s || (not t || pick a.missed a.other)) ≡ true →
-          (not s || (not t || pick (a.missed || (nat_lt 0 (file_of a.ask).ino && not (exists v (file_of a.ask))))
+      one : (a : Pending) (s t : Bool) → (not s || (not t || pick a.missed a.full a.other)) ≡ true →
+          (not s || (not t || pick (a.missed || (nat_lt 0 (file_of a.ask).ino && not (exists v (file_of a.ask)))) (a.full || is_full v (server_of a.ask))
           (a.other || is_any (names_other a.ask) (tree_of v (server_of a.ask))))) ≡ true
       one a false t k = refl
       one a true false k = refl
-      one a true true k = lasts a.missed a.other _ _ k
+      one a true true k = lasts a.missed a.full a.other _ _ _ k
 
   -- an ask that comes is a later one
   comes : (v : Volume) (d : ClientId) (ask : Ask) → AllMarked v → AllMarked (arrived v d ask)

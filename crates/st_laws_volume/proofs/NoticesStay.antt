@@ -38,19 +38,19 @@ use Rattle.st_volume.specs.Pages.{same_file}
 use Rattle.st_volume.specs.Volume.{Pending, Volume, file_of, is_of_client}
 
 -- The two marks.
-abbrev pub its_missed : Bool → Bool → Bool
-its_missed p q = p
+abbrev pub its_missed : Bool → Bool → Bool → Bool
+its_missed p q r = p
 
-abbrev pub its_other : Bool → Bool → Bool
-its_other p q = q
+abbrev pub its_other : Bool → Bool → Bool → Bool
+its_other p q r = r
 
 pub missed_lasts : Lasts its_missed
-missed_lasts true q x y k = refl
-missed_lasts false q x y k = cc k
+missed_lasts true q r x y z k = refl
+missed_lasts false q r x y z k = cc k
 
 pub other_lasts : Lasts its_other
-other_lasts p true x y k = refl
-other_lasts p false x y k = cc k
+other_lasts p q true x y z k = refl
+other_lasts p q false x y z k = cc k
 
 -- which asks have them
 abbrev pub of_file : ServerId → ℕ → Ask → Bool
@@ -81,14 +81,14 @@ old_on y it x o h =
     }
 
 -- All that are open now have it.
-all_marked : (c : ClientId) (n : ℕ) (which : Ask → Bool) (pick : Bool → Bool → Bool) (lasts : Lasts pick) (v : Volume) →
-    ((a : Pending) → Has a v.pending → which a.ask ≡ true → pick a.missed a.other ≡ true) → n ≤ length (filter (λ x. x.0.0 == c.0) v.asked) →
+pub all_marked : (c : ClientId) (n : ℕ) (which : Ask → Bool) (pick : Bool → Bool → Bool → Bool) (lasts : Lasts pick) (v : Volume) →
+    ((a : Pending) → Has a v.pending → which a.ask ≡ true → pick a.missed a.full a.other ≡ true) → n ≤ length (filter (λ x. x.0.0 == c.0) v.asked) →
     AllMarked c n which pick lasts v
 all_marked c n which pick lasts v h l = (all_pass (marked c n which pick lasts) v.pending (λ a i. one a i (which a.ask) refl), l)
   where
     one : (a : Pending) → Has a v.pending → (b : Bool) → which a.ask ≡ b → marked c n which pick lasts a ≡ true
     one a i true q =
-        or_right (not (which a.ask)) _ (or_right (not (is_of_client c a && nat_le a.op n)) (pick a.missed a.other) (h a i q))
+        or_right (not (which a.ask)) _ (or_right (not (is_of_client c a && nat_le a.op n)) (pick a.missed a.full a.other) (h a i q))
     one a i false q = or_left (not (which a.ask)) _ (ap not q)
 
 pub old_now : (x : Step) → AllSound x.before.world → (bs : List Behind) (o : Option Volume) → OnSome (HasTreesOf x.before.world) o → OnSome Noticed o →
@@ -154,12 +154,12 @@ marks_kept past t e sc it f g h =
 second : (p q : Bool) → p ≡ true → (not p || q) ≡ true → q ≡ true
 second p q e h = sym (ap (λ b. not b || q) e) ∙ h
 
-pub own_mark : (n : ℕ) (which : Ask → Bool) (pick : Bool → Bool → Bool) (lasts : Lasts pick) (v : Volume) (a : Pending) → Has a v.pending →
-    AllMarked a.client n which pick lasts v → a.op ≤ n → which a.ask ≡ true → pick a.missed a.other ≡ true
+pub own_mark : (n : ℕ) (which : Ask → Bool) (pick : Bool → Bool → Bool → Bool) (lasts : Lasts pick) (v : Volume) (a : Pending) → Has a v.pending →
+    AllMarked a.client n which pick lasts v → a.op ≤ n → which a.ask ≡ true → pick a.missed a.full a.other ≡ true
 own_mark n which pick lasts v a i h l q =
-    second (is_of_client a.client a && nat_le a.op n) (pick a.missed a.other)
+    second (is_of_client a.client a && nat_le a.op n) (pick a.missed a.full a.other)
     (and_both (is_of_client a.client a) (nat_le a.op n) (eq-eqb a.client.0 a.client.0 refl) (le-leb a.op n l))
-    (second (which a.ask) (not (is_of_client a.client a && nat_le a.op n) || pick a.missed a.other) q
+    (second (which a.ask) (not (is_of_client a.client a && nat_le a.op n) || pick a.missed a.full a.other) q
     (each_passes (marked a.client n which pick lasts) v.pending h.0 a i))
 
 noticed_at : (v : Volume) (y : Step) → AllOld y (Some v) → HaveNoticedAt y v

@@ -12,6 +12,7 @@ ghost use Rattle.st_laws_volume.specs.Effects.{ChangesFindTheirFiles, ChangesTak
 ghost use Rattle.st_laws_volume.specs.Epochs.{EpochsAgree};
 ghost use Rattle.st_laws_volume.specs.FateMarks.{CrashedEntriesArePast, CrashesAreMarked, FailedWritesAreRemembered};
 ghost use Rattle.st_laws_volume.specs.Fates.{StillEventsAreTaken};
+ghost use Rattle.st_laws_volume.specs.FullServers.{FullOnesAreNoticed};
 ghost use Rattle.st_laws_volume.specs.HardFiles.{HardFilesAreClean};
 ghost use Rattle.st_laws_volume.specs.StepKinds.{AnswersAreToOpenAsks, EntriesAreTold, KindsAreEnough, StepsAreTaken, is_ask, is_change_line, is_effect, is_failed_write, is_fate, is_free, is_hard_answer, is_line, is_written};
 ghost use Rattle.st_laws_volume.specs.Laws.{RunsInParts, StepsShowTheEvent, TheStartAgrees};
@@ -382,6 +383,13 @@ pub fn files_are_missing()
 /// server had no free block as it refused to map this page for the client.
 pub fn servers_were_full()
     ensures { InEveryRun ServersWereFull }
+{}
+
+/// In every run each answer `nospace` goes to an ask that has noticed that its server was full, or
+/// that came after the server had refused the request for its page. This holds if each server that
+/// has no free block is full in the volume, as each event begins.
+pub fn full_servers_are_noticed()
+    ensures { FullOnesAreNoticed }
 {}
 
 /// In every run each answer `notholder` goes to an ask that has no result, if the volume has taken
