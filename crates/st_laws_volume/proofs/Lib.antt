@@ -3,6 +3,7 @@ pub mod AnswerFacts
 pub mod AnswerLines
 pub mod AnswerResults
 pub mod AnswerSteps
+pub mod AnswersTold
 pub mod AskClient
 pub mod AskEvents
 pub mod AskSteps
@@ -64,6 +65,7 @@ pub mod KeptResults
 pub mod LastingSessions
 pub mod LatePages
 pub mod LateWrites
+pub mod LeftAnswers
 pub mod LifeAnswers
 pub mod LineOrder
 pub mod LogEntries

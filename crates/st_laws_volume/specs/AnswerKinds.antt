@@ -66,6 +66,14 @@ abbrev pub is_too_many_locks : VolumeStep → Bool
 is_too_many_locks (kinds.Answered c op answers.TooManyLocks) = true
 is_too_many_locks it = false
 
+-- Answers follow lines: at each answer each entry has had its line, if the volume has taken all steps before it.
+abbrev pub IsAfterLines : VolumeStep → Volume → Type 0
+IsAfterLines (kinds.Answered c op answer) v = v.lines ≡ length v.log
+IsAfterLines it v = ⊤
+
+abbrev pub AnswersFollowLines : Promise
+AnswersFollowLines = AtEachStepOf IsAfterLines
+
 -- An answer other than `written` goes to a cut, to an ask for a name, or to an ask that has no result.
 abbrev pub ResultFits : VolumeStep → Volume → Type 0
 ResultFits (kinds.Answered c op answers.Written) v = ⊤

@@ -3,7 +3,7 @@
 //! volume has taken the steps" don't say that it takes them.
 #![tactic(auto)]
 
-ghost use Rattle.st_laws_volume.specs.AnswerKinds.{FilesAreAnsweredWithoutResults, LossesAreToldWhole, ResultsAreAnswered, is_disk_fault, is_lost_answer, is_opsfull, is_quiesced, is_uncertain};
+ghost use Rattle.st_laws_volume.specs.AnswerKinds.{AnswersFollowLines, FilesAreAnsweredWithoutResults, LossesAreToldWhole, ResultsAreAnswered, is_disk_fault, is_lost_answer, is_opsfull, is_quiesced, is_uncertain};
 ghost use Rattle.st_laws_volume.specs.AskedAsks.{AsksAreAsAsked};
 ghost use Rattle.st_laws_volume.specs.Asks.{AsksAgree};
 ghost use Rattle.st_laws_volume.specs.DirtyEntries.{DirtyPagesHaveEntries, FullClientsAreFull};
@@ -16,6 +16,7 @@ ghost use Rattle.st_laws_volume.specs.FullServers.{FullOnesAreNoticed};
 ghost use Rattle.st_laws_volume.specs.HardFiles.{HardFilesAreClean};
 ghost use Rattle.st_laws_volume.specs.StepKinds.{AnswersAreToOpenAsks, EntriesAreTold, KindsAreEnough, StepsAreTaken, is_ask, is_change_line, is_effect, is_failed_write, is_fate, is_free, is_hard_answer, is_line, is_written};
 ghost use Rattle.st_laws_volume.specs.Laws.{RunsInParts, StepsShowTheEvent, TheStartAgrees};
+ghost use Rattle.st_laws_volume.specs.LeftAnswers.{NoFileIsTaken, NoSpaceIsTaken, ReadsAreTaken};
 ghost use Rattle.st_laws_volume.specs.Logs.{InEveryRun, LogsAgree};
 ghost use Rattle.st_laws_volume.specs.LossMarks.{LatePagesHaveFailed, LossesAreMet, PagesAreOnce};
 ghost use Rattle.st_laws_volume.specs.NoFileAnswers.{FilesAreMissing};
@@ -140,6 +141,33 @@ pub fn trees_agree()
 /// log has its line in that event.
 pub fn kinds_are_enough()
     ensures { KindsAreEnough }
+{}
+
+/// In every run, at each answer, each entry of the volume has had its line, if the volume has taken
+/// all steps before it.
+pub fn answers_follow_lines()
+    ensures { InEveryRun AnswersFollowLines }
+{}
+
+/// In every run the volume takes each answer that tells the bytes of a page, if it has taken all
+/// steps before it. This holds if at each such answer the file exists, and no other client has open
+/// entries of it.
+pub fn reads_are_taken()
+    ensures { ReadsAreTaken }
+{}
+
+/// In every run the volume takes each answer `nospace`, if it has taken all steps before it. This
+/// holds if each server that has no free block is full in the volume, as each event begins, and if
+/// an ask that came after the refusal of its page has noticed that its server was full.
+pub fn no_space_is_taken()
+    ensures { NoSpaceIsTaken }
+{}
+
+/// In every run the volume takes each answer `nofile`, if it has taken all steps before it. This
+/// holds if an ask that came after the refusal of a request for its file has noticed that the file
+/// didn't exist.
+pub fn no_file_is_taken()
+    ensures { NoFileIsTaken }
 {}
 
 /// Every run is a run of the volume, if in every run the volume takes the answers of six kinds, if
