@@ -100,7 +100,9 @@ pub mod OwedHolds
 pub mod OwedLines
 pub mod OwedRows
 pub mod OwedSteps
+pub mod PageBlocks
 pub mod PageRequests
+pub mod PagesLie
 pub mod Parts
 pub mod PendingAlone
 pub mod PlaceCounts
@@ -128,6 +130,7 @@ pub mod ServedEffects
 pub mod ServedEnds
 pub mod ServedFiles
 pub mod ServedRequests
+pub mod ServerFolds
 pub mod SessionEpochs
 pub mod Shown
 pub mod SoonerAsks

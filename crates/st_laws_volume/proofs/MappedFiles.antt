@@ -4,30 +4,22 @@ use Words.{◌≡◌, ◌⊎◌, ℕ, ◌+◌, arith, Bool, true, false, not, �
 use Words.{bytes_eq, eq-eqb, eqb-true, filter, le-leb, is_some, nat_le, nat_lt, option_map, unwrap_or, BlockAt, ClientId, FileId, PageNo, ServerId, Stamp, Ask, Body, Event}
 use Words.{Header, Message, Extent, EntryRefusal, IssuedCommand, NameEntry, SentMessage, ServerInput}
 use Words.bodies
-use Words.events
-use Words.inputs
-use Words.nodes
-use Words.serving
-use Words.Client as cl
-use Words.ClientState.{ClientTurn}
-use Words.Events as ev
 use Words.Events.{WorldTurn, world_step}
 use Words.Extents as extents
 use Words.Extents.{Extents}
 use Words.History.{Traced, traced}
 use Words.Keys.{page_no, same_file}
 use Words.Lists.{Has}
-use Words.Members.{has_last, has_left, has_set}
+use Words.Members.{has_last, has_left}
 use Words.Names as names
 use Words.Names.{Names}
-use Words.Numbers.{numbered_has}
 use Words.Safety.{Promise, Step, step, steps}
 use Words.Server as sv
 use Words.Server.{ServerNode, ServerState, ServerTurn, Stable}
 use Words.Tables.{and_both, and_true, found_at, has_append, has_filter, has_filter_in, has_map, has_map_in, none_has, not_true}
 use Words.Truth.{clash, file_self}
 use Words.World as world
-use Words.World.{World, WorldClient, clock_of, fresh_world, message_of, node_of, receiver_of, site_of}
+use Words.World.{World, fresh_world}
 use Rattle.std.specs.Option.{option_or}
 use Rattle.st_rules.specs.declared.names.EntryRefusal.TheVariants as refusals
 use Rattle.st_lemmas.proofs.Steps.{step_happens, throughout_all}
@@ -36,17 +28,16 @@ use Rattle.st_trace.specs.Server.Edits as edits
 use Rattle.st_trace.specs.Server.Edits.{Ruled, Served}
 use Rattle.st_trace.proofs.Server.Allocating.{allocated_pages_are_placed}
 use Rattle.st_trace.proofs.Server.StableParts.{step_stable}
-use Rattle.st_laws_pages.proofs.Disks.Walk.{step_id}
 use Rattle.st_laws_volume.specs.Effects.{AllHaveFiles, HasFiles, MappedFilesExist}
 use Rattle.st_laws_volume.specs.Logs.{InEveryRun}
 use Rattle.st_laws_volume.specs.TreeNames.{IsSound}
-use Rattle.st_laws_volume.specs.Witness.{Witness, begun, now_at}
+use Rattle.st_laws_volume.specs.Witness.{Witness, begun}
 use Rattle.st_laws_volume.proofs.Carried.{IsKept, Led, carried}
 use Rattle.st_laws_volume.proofs.ReadPages.{throughout_more}
+use Rattle.st_laws_volume.proofs.ServerFolds.{event_has}
 use Rattle.st_laws_volume.proofs.TreeKinds.{file_at}
 use Rattle.st_laws_volume.proofs.Trees.{Nothing, TreesHold, trees_begin, trees_kept}
 use Rattle.st_laws_volume.proofs.TreeSound.{stay_sound}
-use Rattle.st_laws_volume.proofs.TreeWorld.{AllSound, asks_servers, at_client_servers, crashes_client_servers, loses_servers, node_after, report_servers, starts_client_servers, stopped_servers, took_servers}
 
 -- A file has an entry.
 pub record IsFileEntry (n : Names) (ino : ℕ) : Type 0 where
@@ -214,7 +205,7 @@ others_stay n s dir name d q ino o f =
     by e (inr i) = absurd (o (sym e.its ∙ i))
 
 -- Pages that are allocated belong to the file.
-placed_rows : (f : FileId) (ps : List PageNo) (x : Extents) (e : Extent) → Has e (extents.place_pages f ps x).rows → Has e x.rows ⊎ (e.file ≡ f)
+pub placed_rows : (f : FileId) (ps : List PageNo) (x : Extents) (e : Extent) → Has e (extents.place_pages f ps x).rows → Has e x.rows ⊎ (e.file ≡ f)
 unfolding extents.place_pages extents.place_on
 placed_rows f [] x e h = inl h
 placed_rows f (p ∷ ps) x e h = go (extents.free_blocks x) (placed_rows f ps (extents.place_on x f p (extents.free_blocks x)) e h)
@@ -243,7 +234,7 @@ rows_left s ino x e q h =
           (not_true (extents.is_at_or_behind f (page_no 0) e) z.1),
     )
 
-rows_fewer : (f : FileId) (p : PageNo) (x : Extents) (e : Extent) → Has e (extents.release_from x f p).rows → Has e x.rows
+pub rows_fewer : (f : FileId) (p : PageNo) (x : Extents) (e : Extent) → Has e (extents.release_from x f p).rows → Has e x.rows
 unfolding extents.release_from
 rows_fewer f p x e h = (has_filter (λ y. not (extents.is_at_or_behind f p y)) x.rows e h).0
 
@@ -295,85 +286,8 @@ step_has n now i sound h = go (sv.server_step n now i).state.stable (step_stable
         let x = v.asked.heard.came.begun in
         rule_has n.id now t x.id (subst (λ (z : Stable). IsSound z.names) (sym x.stable) sound) (subst (HasFiles n.id) (sym x.stable) h) m.header m.body u b r
 
--- What an event leaves.
-abbrev NodeHas : ServerNode → Type 0
-NodeHas node = HasFiles node.state.id node.state.stable
-
-module _ (t : World) (sound : AllSound t) (h : AllHaveFiles t) where
-  same_servers : (w : World) → w.servers ≡ t.servers → AllHaveFiles w
-  same_servers w e node i = h node (subst (Has node) e i)
-
-  taken_has : (s : ServerId) (i : ServerInput) (node : ServerNode) → node_of t s ≡ Some node →
-      AllHaveFiles (ev.server_takes (ev.counted t) s i node).world
-  taken_has s i node at x j = go node.running refl
-    where
-      its : Has node t.servers
-      its = numbered_has t.servers s.0 node at
-
-      next : NodeHas (node_after node (now_at t s) i)
-      next =
-          subst (λ k. HasFiles k (sv.server_step node.state (now_at t s) i).state.stable) (sym (step_id node.state (now_at t s) i))
-          (step_has node.state (now_at t s) i (sound node its) (h node its))
-
-      put : (x ≡ node_after node (now_at t s) i) ⊎ Has x t.servers → NodeHas x
-      put (inl e) = subst NodeHas (sym e) next
-      put (inr k) = h x k
-
-      go : (b : Bool) → node.running ≡ b → NodeHas x
-      go true r = put (has_set t.servers (Words.pred s.0) (node_after node (now_at t s) i) x (subst (Has x) (took_servers t s i node r) j))
-      go false r = h x (subst (Has x) (stopped_servers t s i node r) j)
-
-  at_server_has : (s : ServerId) (i : ServerInput) (o : Option ServerNode) → node_of t s ≡ o → AllHaveFiles (ev.at_server (ev.counted t) s i o).world
-  unfolding ev.at_server
-  at_server_has s i None at = h
-  at_server_has s i (Some node) at = taken_has s i node at
-
-  put_has : (s : ServerId) (new : ServerNode) → NodeHas new → AllHaveFiles (ev.with_node s new (ev.counted t))
-  put_has s new k x j = go (has_set t.servers (Words.pred s.0) new x j)
-    where
-      go : (x ≡ new) ⊎ Has x t.servers → NodeHas x
-      go (inl e) = subst NodeHas (sym e) k
-      go (inr i) = h x i
-
-  crash_has : (s : ServerId) (o : Option ServerNode) → node_of t s ≡ o → AllHaveFiles (ev.crashes_server (ev.counted t) s o)
-  unfolding ev.crashes_server sv.crash
-  crash_has s None at = h
-  crash_has s (Some node) at = put_has s (sv.crash_node node) (h node (numbered_has t.servers s.0 node at))
-
-  start_has : (s : ServerId) (o : Option ServerNode) → node_of t s ≡ o → AllHaveFiles (ev.starts_server (ev.counted t) s o)
-  unfolding ev.starts_server sv.start sv.begin_epoch
-  start_has s None at = h
-  start_has s (Some node) at = put_has s (sv.start_node node (clock_of (ev.counted t) (nodes.Server s))) (h node (numbered_has t.servers s.0 node at))
-
-  message_has : (o : Option SentMessage) → AllHaveFiles (ev.delivers (ev.counted t) o).world
-  unfolding ev.delivers ev.delivers_to
-  message_has None = h
-  message_has (Some m) = to (receiver_of m)
-    where
-      to : (n : Words.NodeId) → AllHaveFiles (ev.delivers_to (ev.counted t) m.message n).world
-      to (nodes.Client c) =
-          same_servers (ev.at_client (ev.counted t) c (inputs.Control m.message) (site_of t c)).world
-          (at_client_servers (ev.counted t) c (inputs.Control m.message) (site_of t c))
-      to (nodes.Server s) = at_server_has s (serving.Control m.message) (node_of t s) refl
-
-  event_has : (e : Event) → AllHaveFiles (ev.happens (ev.counted t) e).world
-  unfolding ev.happens ev.ticks ev.crashes ev.starts ev.advances ev.effects ev.marks
-  event_has (events.Tick (nodes.Client c)) =
-      same_servers (ev.at_client (ev.counted t) c inputs.Tick (site_of t c)).world (at_client_servers (ev.counted t) c inputs.Tick (site_of t c))
-  event_has (events.Tick (nodes.Server s)) = at_server_has s serving.Tick (node_of t s) refl
-  event_has (events.App c ask) = same_servers (ev.asks_at (ev.counted t) c ask (site_of t c)).world (asks_servers t c ask (site_of t c))
-  event_has (events.Deliver k) = message_has (message_of t k)
-  event_has (events.Lose k) = same_servers (ev.loses_message (ev.counted t) k (message_of t k)) (loses_servers t k (message_of t k))
-  event_has (events.Cut from to) = h
-  event_has (events.Heal from to) = h
-  event_has (events.Advance increments) = h
-  event_has (events.Effect k) = h
-  event_has (events.Report k ok) = same_servers (ev.reports_of (ev.counted t) k ok).world (report_servers t k ok)
-  event_has (events.Crash (nodes.Client c)) =
-      same_servers (ev.crashes_client (ev.counted t) c (site_of t c)).world (crashes_client_servers t c (site_of t c))
-  event_has (events.Crash (nodes.Server s)) = crash_has s (node_of t s) refl
-  event_has (events.Start (nodes.Client c)) = same_servers (ev.starts_client (ev.counted t) c (site_of t c)) (starts_client_servers t c (site_of t c))
-  event_has (events.Start (nodes.Server s)) = start_has s (node_of t s) refl
+mapped_alike : (s : ServerId) (y z : Stable) → z.names ≡ y.names → z.extents ≡ y.extents → HasFiles s y → HasFiles s z
+mapped_alike s y z n x h e i q = ap (λ m. names.is_file m e.file.ino) n ∙ h e (subst (λ (r : Extents). Has e r.rows) x i) q
 
 -- In every run.
 pub record FilesHold (past : List Step) (t : Traced) (it : Witness) : Type 0 where
@@ -384,7 +298,7 @@ pub files_kept : IsKept Nothing FilesHold
 files_kept past t e sc it f g h =
     record {
       trees = trees_kept past t e sc it f g h.trees;
-      mapped = subst (λ (z : WorldTurn). AllHaveFiles z.world) (sym (step_happens t.world e sc f).1) (event_has t.world h.trees.sound h.mapped e);
+      mapped = subst (λ (z : WorldTurn). AllHaveFiles z.world) (sym (step_happens t.world e sc f).1) (event_has HasFiles mapped_alike step_has t.world h.trees.sound h.mapped e);
     }
 
 pub files_begin : (k : Words.Config) (clients servers disks blocks form : ℕ) →
@@ -397,7 +311,7 @@ files_begin k clients servers disks blocks form =
       mapped =
           λ node i.
           let z = has_map (world.node_at_start k servers disks blocks) (extents.numbers 1 servers) node i in
-          subst NodeHas (sym z.2) (λ e j. absurd j);
+          subst (λ (n : ServerNode). HasFiles n.state.id n.state.stable) (sym z.2) (λ e j. absurd j);
     }
 
 pub mapped_files_exist : InEveryRun MappedFilesExist

@@ -25,6 +25,7 @@ ghost use Rattle.st_laws_volume.specs.NotHolderAnswers.{LocksWereMissing};
 ghost use Rattle.st_laws_volume.specs.Notices.{AsksHaveNoticed};
 ghost use Rattle.st_laws_volume.specs.OtherAnswers.{OtherAnswersAreEnough};
 ghost use Rattle.st_laws_volume.specs.OwedRows.{OwedRowsNameEntries};
+ghost use Rattle.st_laws_volume.specs.PageBlocks.{PagesLieOnOneBlock};
 ghost use Rattle.st_laws_volume.specs.Reads.{PagesAgree, ReadsGiveThePages};
 ghost use Rattle.st_laws_volume.specs.Refusals.{GoneFilesStayGone, NoticesStay, RefusalsAreNoticed, RepliesStayNoticed};
 ghost use Rattle.st_laws_volume.specs.Requests.{AsksOfRequestsAreNext, RequestsAreForTheirAsks, RequestsFindNone, RequestsHaveAsks, RequestsHaveEffects, RequestsTakeEffectInOrder};
@@ -253,6 +254,12 @@ pub fn epochs_agree()
 /// has.
 pub fn mapped_files_exist()
     ensures { InEveryRun MappedFilesExist }
+{}
+
+/// In every run, after every event, each page that a server has mapped lies on one block, and its
+/// file is one of that server.
+pub fn pages_lie_on_one_block()
+    ensures { InEveryRun PagesLieOnOneBlock }
 {}
 
 /// In every run each write and each patch of a page finds that its file exists, and that what is
