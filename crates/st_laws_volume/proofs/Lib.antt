@@ -57,6 +57,7 @@ pub mod FewAsks
 pub mod FileReplies
 pub mod FullAnswers
 pub mod FullNotices
+pub mod FullRoom
 pub mod GoneFiles
 pub mod GoneLives
 pub mod HardAnswers
@@ -124,6 +125,8 @@ pub mod RequestGrants
 pub mod RequestResults
 pub mod ResultsAtAnswers
 pub mod ResultsStay
+pub mod RoomCounts
+pub mod RoomSizes
 pub mod SentOrder
 pub mod SentRequests
 pub mod ServedEffects
@@ -154,6 +157,7 @@ pub mod Trees
 pub mod UncertainAnswers
 pub mod UnresultedAnswers
 pub mod UnservedAsks
+pub mod VolumeSizes
 pub mod WaitingChanges
 pub mod WriteOrder
 pub mod WrittenAnswers

@@ -22,11 +22,13 @@ without (y ∷ ys) b (inl e) = ys
 without (y ∷ ys) b (inr i) = y ∷ without ys b i
 
 one_less : {B : Type 0} (ys : List B) (b : B) (h : Has b ys) → length ys ≡ suc (length (without ys b h))
+unfolding without
 one_less [] b h = absurd h
 one_less (y ∷ ys) b (inl e) = refl
 one_less (y ∷ ys) b (inr i) = ap suc (one_less ys b i)
 
 others : {B : Type 0} (ys : List B) (b : B) (h : Has b ys) (c : B) → Has c ys → (c ≡ b) ⊎ Has c (without ys b h)
+unfolding without
 others [] b h c i = absurd h
 others (y ∷ ys) b (inl e) c (inl q) = inl (q ∙ sym e)
 others (y ∷ ys) b (inl e) c (inr j) = inr j
@@ -125,11 +127,12 @@ disk_of x p b i = let z = has_map (extents.block_at p) (extents.numbers 0 x.bloc
 
 on_one : (x : Extents) (ps : List ℕ) (b : BlockAt) → Has b (flat_map (extents.blocks_of x) ps) → IsOn x b ps
 on_one x [] b i = absurd i
-on_one x (p ∷ ps) b i = go (has_append (extents.blocks_of x p) (flat_map (extents.blocks_of x) ps) b i)
+on_one x (p ∷ ps) b i = go (has_append (extents.blocks_of x p) (flat_map (extents.blocks_of x) ps) b i) (λ j. on_one x ps b j)
   where
-    go : Has b (extents.blocks_of x p) ⊎ Has b (flat_map (extents.blocks_of x) ps) → IsOn x b (p ∷ ps)
-    go (inl j) = record { place = p; among = inl refl; disk = disk_of x p b j }
-    go (inr j) = let z = on_one x ps b j in record { place = z.place; among = inr z.among; disk = z.disk }
+    go : Has b (extents.blocks_of x p) ⊎ Has b (flat_map (extents.blocks_of x) ps) → (Has b (flat_map (extents.blocks_of x) ps) → IsOn x b ps) →
+        IsOn x b (p ∷ ps)
+    go (inl j) h = record { place = p; among = inl refl; disk = disk_of x p b j }
+    go (inr j) h = let z = h j in record { place = z.place; among = inr z.among; disk = z.disk }
 
 all_distinct : (x : Extents) (ps : List ℕ) → Distinct ps → Distinct (flat_map (extents.blocks_of x) ps)
 unfolding Distinct

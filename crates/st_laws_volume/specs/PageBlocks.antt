@@ -1,9 +1,8 @@
 -- Where the pages of servers lie, and which room they take in the volume.
-use Rattle.std.specs.Prelude.{◌≡◌, true, List, Some, length}
-use Rattle.std.specs.List.{list_all}
+use Rattle.std.specs.Prelude.{◌≡◌, true, List, Some}
 use Rattle.st_base.specs.declared.ids.ServerId.{ServerId}
 use Rattle.st_rules.specs.declared.extents.Extent.{Extent}
-use Rattle.st_rules.specs.Extents.{Extents, own_blocks}
+use Rattle.st_rules.specs.Extents.{Extents}
 use Rattle.st_rules.specs.Safety.{Promise}
 use Rattle.st_rules.specs.Server.{ServerNode}
 use Rattle.st_rules.specs.World.{World, node_of}
@@ -11,8 +10,8 @@ use Rattle.st_lemmas.specs.Lists.{Has}
 use Rattle.st_laws_volume.specs.FullServers.{FullServersHaveNoRoom}
 use Rattle.st_laws_volume.specs.Logs.{InEveryRun}
 use Rattle.st_laws_volume.specs.Options.{OnSome}
-use Rattle.st_laws_volume.specs.Witness.{is_claimed, led_to}
-use Rattle.st_volume.specs.Volume.{Volume, numbered}
+use Rattle.st_laws_volume.specs.Witness.{are_claimed, led_to}
+use Rattle.st_volume.specs.Volume.{Volume}
 
 -- Each page lies on one block.
 abbrev pub IsOnce : List Extent → Type 0
@@ -30,13 +29,9 @@ AllLie w = (node : ServerNode) → Has node w.servers → PagesLie node.state.id
 abbrev pub PagesLieOnOneBlock : Promise
 PagesLieOnOneBlock past x = AllLie x.after.world
 
--- In the volume a server has room for as many pages as it has blocks; and it was wanted for each page that the server has mapped.
-pub record HasRoomFor (v : Volume) (s : ServerId) (x : Extents) : Type 0 where
-  pub size : numbered v.sizes s.0 ≡ Some (length (own_blocks x))
-  pub claimed : list_all (is_claimed v.claims) x.rows ≡ true
-
+-- In the volume room was wanted for each page that a server has mapped.
 abbrev pub AllHaveRoom : World → Volume → Type 0
-AllHaveRoom w v = (s : ServerId) (node : ServerNode) → node_of w s ≡ Some node → HasRoomFor v s node.state.stable.extents
+AllHaveRoom w v = (s : ServerId) (node : ServerNode) → node_of w s ≡ Some node → are_claimed v.claims node ≡ true
 
 -- Room is wanted: as each event begins, if the volume has taken the steps of all events before it.
 abbrev pub RoomIsWanted : Promise

@@ -25,7 +25,7 @@ ghost use Rattle.st_laws_volume.specs.NotHolderAnswers.{LocksWereMissing};
 ghost use Rattle.st_laws_volume.specs.Notices.{AsksHaveNoticed};
 ghost use Rattle.st_laws_volume.specs.OtherAnswers.{OtherAnswersAreEnough};
 ghost use Rattle.st_laws_volume.specs.OwedRows.{OwedRowsNameEntries};
-ghost use Rattle.st_laws_volume.specs.PageBlocks.{PagesLieOnOneBlock};
+ghost use Rattle.st_laws_volume.specs.PageBlocks.{PagesLieOnOneBlock, WantedRoomIsFull};
 ghost use Rattle.st_laws_volume.specs.Reads.{PagesAgree, ReadsGiveThePages};
 ghost use Rattle.st_laws_volume.specs.Refusals.{GoneFilesStayGone, NoticesStay, RefusalsAreNoticed, RepliesStayNoticed};
 ghost use Rattle.st_laws_volume.specs.Requests.{AsksOfRequestsAreNext, RequestsAreForTheirAsks, RequestsFindNone, RequestsHaveAsks, RequestsHaveEffects, RequestsTakeEffectInOrder};
@@ -425,6 +425,13 @@ pub fn servers_were_full()
 /// has no free block is full in the volume, as each event begins.
 pub fn full_servers_are_noticed()
     ensures { FullOnesAreNoticed }
+{}
+
+/// In every run, as each event begins, each server that has no free block is full in the volume, if
+/// the volume has taken the steps of all events before it. This holds if room was wanted for each
+/// page that a server has mapped.
+pub fn wanted_room_is_full()
+    ensures { WantedRoomIsFull }
 {}
 
 /// In every run each answer `notholder` goes to an ask that has no result, if the volume has taken
