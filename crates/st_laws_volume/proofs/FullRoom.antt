@@ -26,7 +26,8 @@ use Rattle.st_laws_volume.proofs.RoomSizes.{Sized, SizesHold, sizes_begin, sizes
 use Rattle.st_volume.specs.Pages.{is_any}
 use Rattle.st_volume.specs.Volume.{Volume, numbered, places_at}
 
-full_so : (w : World) (v : Volume) (sizes : List ℕ) → v.sizes ≡ sizes → ((node : ServerNode) → Has node w.servers → Sized sizes node.state.id node.state.stable) →
+full_so : (w : World) (v : Volume) (sizes : List ℕ) → v.sizes ≡ sizes →
+    ((node : ServerNode) → Has node w.servers → Sized sizes node.state.id node.state.stable) →
     AllLie w → ((s : ServerId) (node : ServerNode) → node_of w s ≡ Some node → node.state.id ≡ s) → AllHaveRoom w v → AreFull w v
 full_so w v sizes same sized lie ids room s node at f =
     ap (is_any (λ size. nat_le size (length (places_at s v.claims))))

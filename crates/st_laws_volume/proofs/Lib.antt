@@ -67,6 +67,7 @@ pub mod LastingSessions
 pub mod LatePages
 pub mod LateWrites
 pub mod LeftAnswers
+pub mod LeftFacts
 pub mod LifeAnswers
 pub mod LineOrder
 pub mod LogEntries

@@ -298,7 +298,8 @@ pub files_kept : IsKept Nothing FilesHold
 files_kept past t e sc it f g h =
     record {
       trees = trees_kept past t e sc it f g h.trees;
-      mapped = subst (λ (z : WorldTurn). AllHaveFiles z.world) (sym (step_happens t.world e sc f).1) (event_has HasFiles mapped_alike step_has t.world h.trees.sound h.mapped e);
+      mapped = subst (λ (z : WorldTurn). AllHaveFiles z.world) (sym (step_happens t.world e sc f).1)
+          (event_has HasFiles mapped_alike step_has t.world h.trees.sound h.mapped e);
     }
 
 pub files_begin : (k : Words.Config) (clients servers disks blocks form : ℕ) →

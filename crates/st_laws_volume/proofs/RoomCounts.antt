@@ -160,7 +160,8 @@ taken x f b i = go (list_any (extents.lies_at b) x.rows) refl
   where
     go : (c : Bool) → list_any (extents.lies_at b) x.rows ≡ c → list_any (extents.lies_at b) x.rows ≡ true
     go true q = q
-    go false q = absurd (none_in (filter (extents.is_free x) (extents.own_blocks x)) f b (has_filter_in (extents.is_free x) (extents.own_blocks x) b i (ap not q)))
+    go false q =
+        absurd (none_in (filter (extents.is_free x) (extents.own_blocks x)) f b (has_filter_in (extents.is_free x) (extents.own_blocks x) b i (ap not q)))
 
 -- a block and a page that lies on it
 record LiesOn (x : Extents) (b : BlockAt) (c : FileId × PageNo) : Type 0 where

@@ -17,6 +17,7 @@ ghost use Rattle.st_laws_volume.specs.HardFiles.{HardFilesAreClean};
 ghost use Rattle.st_laws_volume.specs.StepKinds.{AnswersAreToOpenAsks, EntriesAreTold, KindsAreEnough, StepsAreTaken, is_ask, is_change_line, is_effect, is_failed_write, is_fate, is_free, is_hard_answer, is_line, is_written};
 ghost use Rattle.st_laws_volume.specs.Laws.{RunsInParts, StepsShowTheEvent, TheStartAgrees};
 ghost use Rattle.st_laws_volume.specs.LeftAnswers.{NoFileIsTaken, NoSpaceIsTaken, ReadsAreTaken};
+ghost use Rattle.st_laws_volume.specs.LeftFacts.{LeftFactsAreEnough};
 ghost use Rattle.st_laws_volume.specs.Logs.{InEveryRun, LogsAgree};
 ghost use Rattle.st_laws_volume.specs.LossMarks.{LatePagesHaveFailed, LossesAreMet, PagesAreOnce};
 ghost use Rattle.st_laws_volume.specs.NoFileAnswers.{FilesAreMissing};
@@ -176,6 +177,14 @@ pub fn no_file_is_taken()
 /// `dirtyfull`, `notholder` and `toomanylocks`. All else is proved.
 pub fn other_answers_are_enough()
     ensures { OtherAnswersAreEnough }
+{}
+
+/// Every run is a run of the volume, if four facts hold in every run, and the volume takes the
+/// answers `dirtyfull`, `notholder` and `toomanylocks`. A read that is answered finds its file,
+/// without open entries of other clients. Room was wanted for each page that a server has mapped.
+/// An ask that came after a refusal for its page or its file has noticed the same.
+pub fn left_facts_are_enough()
+    ensures { LeftFactsAreEnough }
 {}
 
 /// In every run the volume takes each crash of a client, start of a server and failed read, if
