@@ -1,6 +1,6 @@
 -- The steps of a rule: nothing is done, an output is added, one step after another, one of two steps.
 use Rattle.st_lemmas.proofs.Words
-use Words.{◌≡◌, ℕ, ◌+◌, ◌≤◌, Bool, true, false, List, [], ◌∷◌, ◌++◌, length, refl, ◌∙◌, arith, if◌then◌else◌, map, filter, Result, Ok, Err, IfOk, OnOk}
+use Words.{◌≡◌, ℕ, ◌+◌, ◌≤◌, Bool, true, false, List, [], ◌∷◌, ◌++◌, length, refl, ◌∙◌, arith, if◌then◌else◌, map, filter, Result, Ok, Err, IfOk}
 use Words.{AppAnswer, Output, Operation}
 use Words.ClientState.{Turn, answer_each, answer_to, say}
 use Rattle.std.proofs.lemmas.List.{length-append}
@@ -50,10 +50,9 @@ pub either : (b : Bool) (x y t : Turn) → Advances t x → Advances t y → Adv
 either true x y t p q = p
 either false x y t p q = q
 
--- what advances, if it does not run out of memory
-pub advanced : {A B : Type 0} (f : Turn → Turn) (g : (t : Turn) → Advances t (f t)) (r : Result A B) (t u : Turn) → OnOk r (u ≡ f t) → OnOk r (Advances t u)
-advanced f g (Ok x) t u h = rw h (g t)
-advanced f g (Err e) t u h = h
+-- what a rule that advances leaves
+pub advances_to : (f : Turn → Turn) (g : (t : Turn) → Advances t (f t)) (t u : Turn) → u ≡ f t → Advances t u
+advances_to f g t u h = rw h (g t)
 
 -- what holds of a result that is one
 pub ok_by : {A B : Type 0} (r : Result A B) (P Q : A → Type 0) → ((a : A) → P a → Q a) → IfOk r P → IfOk r Q

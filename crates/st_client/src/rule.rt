@@ -1,5 +1,5 @@
 // A rule for one association, as it is done at each server in turn.
-ghost use Rattle.std.specs.Prelude.{◌≡◌, true, false, OnOk};
+ghost use Rattle.std.specs.Prelude.{◌≡◌, true, false, IfOk};
 ghost use Rattle.st_client.specs.IdleRules.{IsIdle};
 ghost use Rattle.st_client.specs.Machines.{Advances};
 
@@ -21,9 +21,9 @@ pub trait Rule {
     fn touches(&self, a: &Association, operations: &Operations) -> bool
         ensures { result ≡ false → IsIdle (run self.now) operations.now a.now };
 
-    /// The rule at an association.
-    fn apply(&self, turn: &mut Turn) -> Result<(), AllocError>
-        requires { is_ready self.now turn.old.config turn.old.here ≡ true }
-        ensures run { OnOk result (turn.new ≡ run self.now turn.old) }
-        ensures advances { OnOk result (Advances turn.old turn.new) };
+    /// The step after the rule at an association.
+    fn apply(&self, turn: Turn) -> Result<Turn, AllocError>
+        requires { is_ready self.now turn.config turn.here ≡ true }
+        ensures run { IfOk result (λ t. t ≡ run self.now turn) }
+        ensures advances { IfOk result (λ t. Advances turn t) };
 }

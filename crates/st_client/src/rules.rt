@@ -43,8 +43,9 @@ impl Rule for Lose {
         a.is_over(self.now)
     }
 
-    fn apply(&self, turn: &mut Turn) -> Result<(), AllocError> {
-        lose(turn, self.now)
+    fn apply(&self, mut turn: Turn) -> Result<Turn, AllocError> {
+        lose(&mut turn, self.now)?;
+        Ok(turn)
     }
 }
 
@@ -67,8 +68,9 @@ impl<'a> Rule for Finish<'a> {
         true
     }
 
-    fn apply(&self, turn: &mut Turn) -> Result<(), AllocError> {
-        finish(turn, self.number, self.result)
+    fn apply(&self, mut turn: Turn) -> Result<Turn, AllocError> {
+        finish(&mut turn, self.number, self.result)?;
+        Ok(turn)
     }
 }
 
@@ -92,8 +94,9 @@ impl<'a> Rule for Receive<'a> {
         is_from(&self.message.header, a.server())
     }
 
-    fn apply(&self, turn: &mut Turn) -> Result<(), AllocError> {
-        receive_at(turn, self.now, self.message.header, &self.message.body)
+    fn apply(&self, mut turn: Turn) -> Result<Turn, AllocError> {
+        receive_at(&mut turn, self.now, self.message.header, &self.message.body)?;
+        Ok(turn)
     }
 }
 
@@ -118,7 +121,7 @@ impl Rule for Passes {
         operations.any_may_act(server, all) || a.is_awake(self.now, self.tick)
     }
 
-    fn apply(&self, turn: &mut Turn) -> Result<(), AllocError> {
+    fn apply(&self, turn: Turn) -> Result<Turn, AllocError> {
         passes(turn, self.now, self.tick)
     }
 }
@@ -144,11 +147,12 @@ impl<'a> Rule for TakeAsk<'a> {
     }
 
     #[tactic(auto, unfolding(st_rules::specs::ClientState::only_at))]
-    fn apply(&self, turn: &mut Turn) -> Result<(), AllocError> {
+    fn apply(&self, mut turn: Turn) -> Result<Turn, AllocError> {
         if turn.server().0 == server_of(self.ask).0 {
-            take_ask(turn, self.op, self.ask.copy()?)
+            take_ask(&mut turn, self.op, self.ask.copy()?)?;
+            Ok(turn)
         } else {
-            Ok(())
+            Ok(turn)
         }
     }
 }

@@ -59,8 +59,8 @@ impl ClientTurn {
         let a = here.associations.swap_remove(place);
         let operations = here.operations.take_all();
         let out = mem::replace(&mut here.out, Vec::new(here.alloc));
-        let mut turn = a.enter(here.alloc, operations, here.next_command, out);
-        rule.apply(&mut turn)?;
+        let turn = a.enter(here.alloc, operations, here.next_command, out);
+        let turn = rule.apply(turn)?;
         let (a, operations, next_command, out) = turn.leave();
         here.operations = operations;
         here.next_command = next_command;

@@ -37,10 +37,3 @@ sends_again t s new (Some m) now (Some q) p e =
 -- the place of a dirty page that is found
 pub place_found : (dirty : List DirtyPage) (ino : ℕ) (p : PageNo) (d : DirtyPage) → find (is_dirty_of ino p) dirty ≡ Some d → (d.ino ≡ ino) × (d.page ≡ p)
 place_found dirty ino p d e = one_place d.ino d.page ino p (found_at (is_dirty_of ino p) dirty d e).0
-
--- asking again keeps the parties, and the next number
-pub again_keeps : (s new : ServerSession) (m : Option Message) (now : Stamp) (o : Option Request) → Again s new m now o → (new.of ≡ s.of) × (new.session.requests.next ≡ s.session.requests.next)
-again_keeps s new None now None e = (ap (λ x. x.of) e, ap (λ x. x.session.requests.next) e)
-again_keeps s new (Some m) now None e = elim e [ ]
-again_keeps s new None now (Some q) e = (ap (λ x. x.of) e.same, ap (λ x. x.session.requests.next) e.same)
-again_keeps s new (Some m) now (Some q) e = (ap (λ x. x.of) e.left, ap (λ x. x.session.requests.next) e.left)

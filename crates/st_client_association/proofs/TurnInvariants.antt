@@ -1,7 +1,7 @@
 -- The invariant of a step at a server holds after its changes.
 use Rattle.st_lemmas.proofs.Words
 use Words.{◌≡◌, ℕ, ◌⊎◌, ◌+◌, ◌<◌, ◌≤◌, Bool, true, false, List, [], ◌∷◌, ◌++◌, sym, ap, ◌∙◌, subst, inl, inr, arith, Option, Some, filter, Result}
-use Words.{Ok, Err, if◌then◌else◌, not, list_all, ltb-true, lt-ltb, Config, ClientId, ServerId, Life, PageNo, Output, IoKind, PageCommand}
+use Words.{Ok, Err, if◌then◌else◌, list_all, ltb-true, lt-ltb, Config, ClientId, ServerId, Life, PageNo, Output, IoKind, PageCommand}
 use Words.{WriteRefusal}
 use Words.Lists.{Has}
 use Words.Numbers.{length_more}

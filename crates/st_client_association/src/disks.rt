@@ -1,18 +1,17 @@
 // Pages that are used and changed, and disk commands.
-ghost use Rattle.std.specs.Prelude.{◌≡◌, true, false, None, Some, IfOk, OnOk, is_some};
+ghost use Rattle.std.specs.Prelude.{◌≡◌, true, false, None, IfOk, OnOk};
 ghost use Rattle.st_client_association.specs.Turns.{Changes, Reads, has_session, session_of, with_pages};
 ghost use Rattle.st_rules.specs.ClientInvariants.{lasts_here};
 ghost use Rattle.st_rules.specs.ClientPages as pages;
 ghost use Rattle.st_rules.specs.ClientPasses as passes;
 ghost use Rattle.st_rules.specs.ClientState as client;
-ghost use Rattle.st_rules.specs.declared.pages.DirtyPage.{DirtyPage};
 
 use crate::outputs::count;
 use crate::turn::Turn;
-use st_base::{Command, PageBytes, PageNo, Stamp, Tag};
+use st_base::{Command, PageBytes, PageNo, Stamp};
 use st_client_store::CacheRefusal;
 use st_messages::{Note, Output};
-use st_rules::{DirtyPage, MappedBlock};
+use st_rules::MappedBlock;
 use std::alloc::AllocError;
 
 impl Turn {
@@ -102,27 +101,6 @@ impl Turn {
         Ok(())
     }
 
-    /// A write of a dirty page is submitted. The page is not being written.
-    #[tactic(auto, unfolding(st_rules::specs::ClientPasses::submit_write, st_rules::specs::ClientPasses::submit_command))]
-    pub fn submit_write(
-        &mut self,
-        now: Stamp,
-        ino: u32,
-        page: PageNo,
-        mapping: MappedBlock,
-    ) -> Result<(), AllocError>
-        requires session { has_session self.old ≡ true }
-        requires lasting { lasts_here self.old.config now self.old.here ≡ true }
-        requires unwritten { pages.is_being_written self.old.here.store.commands ino page ≡ false }
-        ensures { OnOk result ((d : DirtyPage) → pages.dirty_of self.old.here.store.pages ino page ≡ Some d → self.new ≡ passes.submit_write self.old d mapping) }
-    {
-        let Some(dirty) = self.here.store.dirty_page(ino, page) else {
-            return Ok(());
-        };
-        let dirty = dirty.copy()?;
-        self.submit_dirty(now, dirty, mapping)
-    }
-
     /// Changes a page, with this note. `false` if 64 others are dirty; then nothing changes. The
     /// bytes are shared.
     pub fn change_page(
@@ -153,46 +131,5 @@ impl Turn {
             Err(CacheRefusal::DirtyFull) => Ok(false),
             Err(CacheRefusal::Memory) => Err(AllocError),
         }
-    }
-
-    /// A write of this dirty page is submitted.
-    #[tactic(auto, unfolding(st_rules::specs::ClientPasses::submit_write, st_rules::specs::ClientPasses::submit_command))]
-    fn submit_dirty(
-        &mut self,
-        now: Stamp,
-        dirty: DirtyPage,
-        mapping: MappedBlock,
-    ) -> Result<(), AllocError>
-        requires session { has_session self.old ≡ true }
-        requires lasting { lasts_here self.old.config now self.old.here ≡ true }
-        requires dirty { is_some (pages.dirty_of self.old.here.store.pages dirty.ino dirty.page) ≡ true }
-        requires unwritten { pages.is_being_written self.old.here.store.commands dirty.ino dirty.page ≡ false }
-        ensures { OnOk result (self.new ≡ passes.submit_write self.old dirty mapping) }
-    {
-        let number = self.next_command;
-        let (ino, page, version) = (dirty.ino, dirty.page, dirty.version);
-        let tag = Tag {
-            file: self.file(ino),
-            page,
-            birth: mapping.birth,
-        };
-        self.out.push(Output::Submit {
-            command: number,
-            at: mapping.at,
-            what: Command::Write {
-                at: mapping.at,
-                tag,
-                bytes: dirty.bytes,
-            },
-        })?;
-        // For its clause `small`: numbers of commands have room for one more output.
-        let _count = count(&self.out);
-        let here = &mut *self.here;
-        match &mut here.session {
-            Some(session) => session.begin_write(now, &mut here.store, number, ino, page, version)?,
-            None => unreachable!(),
-        }
-        self.next_command = number + 1;
-        Ok(())
     }
 }

@@ -1,7 +1,6 @@
 // The pending operations.
 ghost use Rattle.std.specs.Prelude.{◌≡◌, [], true, IfOk, OnOk, filter, not};
 ghost use Rattle.st_messages.specs.Ranges.{is_ask};
-ghost use Rattle.st_operations.specs.PendingOperations.{marked};
 ghost use Rattle.st_rules.specs.ClientReplies as replies;
 ghost use Rattle.st_rules.specs.ClientState as client;
 
@@ -50,13 +49,6 @@ impl Turn {
         ensures { OnOk result (self.new ≡ client.keep (client.new_operation op ask) self.old) }
     {
         self.operations.push(op, ask)
-    }
-
-    /// The request of the operation at a place was sent.
-    pub fn mark_sent(&mut self, place: usize) -> Result<(), AllocError>
-        ensures { OnOk result (self.new ≡ client.with_operations (marked place self.old.operations) self.old) }
-    {
-        self.operations.mark_sent(place)
     }
 
     /// Answers the operations that pass the test, in order; they are no longer pending.

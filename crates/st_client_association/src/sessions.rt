@@ -1,19 +1,17 @@
 // The session of a step: what its rules change.
-ghost use Rattle.std.specs.Prelude.{◌≡◌, ◌≤◌, ◌^◌, true, false, None, IfOk, OnOk, option_map};
-ghost use Rattle.st_client_association.specs.Turns.{Reduces, SendsAgain, TakesRelease, again_if_due, has_session, session_of};
+ghost use Rattle.std.specs.Prelude.{◌≡◌, ◌≤◌, ◌^◌, true, false, IfOk, OnOk, option_map};
+ghost use Rattle.st_client_association.specs.Turns.{has_session, session_of};
 ghost use Rattle.st_requests.specs.ServerRequests.{body_of};
 ghost use Rattle.st_rules.specs.ClientInvariants.{lasts_here};
 ghost use Rattle.st_rules.specs.ClientLease as leases;
 ghost use Rattle.st_rules.specs.ClientLocks as locks;
-ghost use Rattle.st_rules.specs.ClientPasses as passes;
 ghost use Rattle.st_rules.specs.ClientReplies as replies;
 ghost use Rattle.st_rules.specs.ClientState as client;
 
-use crate::outputs::count;
 use crate::turn::Turn;
 use st_base::{Epoch, GrantNo, Mode, Stamp};
-use st_messages::{Body, Message, Output};
-use st_rules::{Asked, Release};
+use st_messages::Body;
+use st_rules::Asked;
 use std::alloc::AllocError;
 
 impl Turn {
@@ -37,15 +35,6 @@ impl Turn {
             Some(session) => session.queue_release(ino, g, to),
             None => unreachable!(),
         }
-    }
-
-    /// The wait for the file is forgotten, and its release goes last.
-    pub fn release(&mut self, ino: u32, g: GrantNo, to: Mode) -> Result<(), AllocError>
-        requires { has_session self.old ≡ true }
-        ensures { OnOk result (self.new ≡ client.with_session (passes.released (session_of self.old) ino g to) self.old) }
-    {
-        self.forget_wait(ino);
-        self.queue_release(ino, g, to)
     }
 
     /// A grant: above the greatest seen it is installed if there is a place for it, and
@@ -94,18 +83,6 @@ impl Turn {
         }
     }
 
-    /// The lock of a demanded file is reduced to what is demanded. It returns the lock's grant and
-    /// that mode. It does not allocate.
-    pub fn reduce_lock(&mut self, ino: u32) -> Option<(GrantNo, Mode)>
-        requires { has_session self.old ≡ true }
-        ensures { Reduces self.old self.new result ino }
-    {
-        match &mut self.here.session {
-            Some(session) => session.reduce(ino),
-            None => unreachable!(),
-        }
-    }
-
     /// The file's lock goes, and its demand with it. It does not allocate.
     pub fn drop_lock(&mut self, ino: u32)
         requires { has_session self.old ≡ true }
@@ -113,17 +90,6 @@ impl Turn {
     {
         match &mut self.here.session {
             Some(session) => session.drop_lock(ino),
-            None => unreachable!(),
-        }
-    }
-
-    /// Takes out the first release. It does not allocate.
-    pub fn take_release(&mut self) -> Option<Release>
-        requires { has_session self.old ≡ true }
-        ensures { TakesRelease self.old result self.new }
-    {
-        match &mut self.here.session {
-            Some(session) => session.take_release(),
             None => unreachable!(),
         }
     }
@@ -185,47 +151,6 @@ impl Turn {
         match &mut self.here.session {
             Some(session) => session.condemn(now),
             None => unreachable!(),
-        }
-    }
-
-    /// A request is sent, with the next number; the file that it cuts or removes is busy.
-    #[tactic(auto, unfolding(st_rules::specs::ClientPasses::ask, st_rules::specs::ClientState::send))]
-    pub fn ask(&mut self, now: Stamp, body: Body, cutting: Option<u32>) -> Result<(), AllocError>
-        requires session { has_session self.old ≡ true }
-        requires free { (session_of self.old).requests.asked ≡ None }
-        ensures { OnOk result (self.new ≡ passes.ask self.old (session_of self.old) now body cutting) }
-    {
-        // For its clause `small`: the number of the next request has room.
-        let _count = count(&self.out);
-        self.out.reserve(1)?;
-        let message = match &mut self.here.session {
-            Some(session) => session.ask(body, cutting, now)?,
-            None => unreachable!(),
-        };
-        self.out.push_reserved(Output::Send(message));
-        Ok(())
-    }
-
-    /// The message of the outstanding request, sent now, if it was last sent long ago.
-    fn again(&mut self, now: Stamp) -> Result<Option<Message>, AllocError>
-        requires { has_session self.old ≡ true }
-        ensures { IfOk result (λ m. SendsAgain self.old self.new m now (session_of self.old).requests.asked) }
-    {
-        let message = match &mut self.here.session {
-            Some(session) => session.again(now)?,
-            None => unreachable!(),
-        };
-        Ok(message)
-    }
-
-    /// The outstanding request is sent once more, if it was last sent long ago.
-    pub fn ask_again(&mut self, now: Stamp) -> Result<(), AllocError>
-        requires { has_session self.old ≡ true }
-        ensures { OnOk result (self.new ≡ again_if_due self.old (session_of self.old) now (session_of self.old).requests.asked) }
-    {
-        match self.again(now)? {
-            None => Ok(()),
-            Some(message) => self.say(Output::Send(message)),
         }
     }
 }

@@ -84,13 +84,6 @@ impl Turn {
         self.here.store.dirty_places()
     }
 
-    /// The file is forgotten from this page on. It does not allocate.
-    pub fn forget_from(&mut self, ino: u32, page: PageNo)
-        ensures { self.new ≡ client.with_store (pages.forget_from self.old.here.store ino page) self.old }
-    {
-        self.here.store.forget_from(ino, page);
-    }
-
     /// The page is known to have no block.
     pub fn know_unmapped(&mut self, ino: u32, page: PageNo) -> Result<(), AllocError>
         ensures { OnOk result (self.new ≡ client.with_store (replies.with_unmapped ino page self.old.here.store) self.old) }

@@ -1,6 +1,6 @@
 -- The first operation that asks, by its place.
-use Rattle.std.proofs.Common.{◌≡◌, ℕ, zero, suc, ◌+◌, Bool, true, false, List, [], ◌∷◌, take, drop, length, ◌≤◌, Some, None, refl, sym, ap, ◌∙◌, arith, add-one}
-use Rattle.std.specs.Prelude.{slice_get}
+use Rattle.std.proofs.Common.{◌≡◌, ℕ, zero, suc, ◌+◌, Bool, true, false, List, [], ◌∷◌, take, drop, length, ◌≤◌, Option, Some, None, refl, sym, ap, ◌∙◌, subst, arith, add-one}
+use Rattle.std.specs.Prelude.{option_map, slice_get}
 use Rattle.st_base.specs.declared.ids.Stamp.{Stamp}
 use Rattle.st_rules.specs.declared.client.Operation.{Operation}
 use Rattle.st_rules.specs.ClientPasses.{Asking, Wanted, asks_or, behind, first_asking, sent_if}
@@ -55,3 +55,10 @@ module _ (t : Turn) (s : ClientSession) (now : Stamp) where
   pub asking_none : (os : List Operation) (i : ℕ) → length os ≤ i → behind_all (take i os) (first_asking t s now (drop i os)) ≡ None
   unfolding first_asking
   asking_none os i l = ap (λ xs. behind_all (take i os) (first_asking t s now xs)) (drop_whole os i l) ∙ none_behind (take i os)
+
+-- what is found of the same turn and session
+pub same_asking : (t u : Turn) (s r : ClientSession) (now : Stamp) (found : Option (ℕ × Wanted)) → u ≡ t → r ≡ s →
+    option_map (asking_at u.operations) found ≡ first_asking u r now u.operations → option_map (asking_at t.operations) found ≡ first_asking t s now t.operations
+same_asking t u s r now found e f h =
+    subst (λ (v : Turn). option_map (asking_at v.operations) found ≡ first_asking v s now v.operations) e
+    (subst (λ (q : ClientSession). option_map (asking_at u.operations) found ≡ first_asking u q now u.operations) f h)

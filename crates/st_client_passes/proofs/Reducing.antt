@@ -42,6 +42,3 @@ module _ (t u : Turn) (ino : ℕ) (is : u ≡ with_session (with_cache (locks.re
   reduced_some g to e =
       ap (λ v. reduce_to v (session_of v) ino g to) is
       ∙ ap (reduce_given t (with_cache (locks.reduce (session_of t).locks ino).locks (session_of t)) ino) e
-
-  pub reduced_session : has_session u ≡ true
-  reduced_session = ap has_session is

@@ -1,18 +1,13 @@
 -- What is done with a session, by whether there is one.
-use Rattle.std.proofs.Common.{◌≡◌, ℕ, Bool, true, false, not, List, [], ◌∷◌, map, Option, Some, None, refl, sym, ap, ◌∙◌, true≢false}
-use Rattle.std.specs.Prelude.{is_some}
+use Rattle.std.proofs.Common.{◌≡◌, ℕ, Bool, true, false, List, [], ◌∷◌, map, Option, Some, None, refl, sym, ap, ◌∙◌, true≢false}
+use Rattle.std.specs.Prelude.{if◌then◌else◌, is_some}
 use Rattle.st_base.specs.declared.ids.Stamp.{Stamp}
 use Rattle.st_rules.specs.declared.client.Operation.{Operation}
-use Rattle.st_rules.specs.declared.client.StandingKind.{StandingKind}
-use Rattle.st_rules.specs.declared.client.StandingKind.TheVariants as kinds
 use Rattle.st_rules.specs.Client.{is_any}
-use Rattle.st_rules.specs.ClientInvariants.{lasts_here, lasts_in}
-use Rattle.st_rules.specs.ClientLease.{may_use, must_discard, standing_of}
 use Rattle.st_rules.specs.ClientLocks as locks
 use Rattle.st_rules.specs.ClientLocks.{LockCache}
-use Rattle.st_rules.specs.ClientPages as pages
-use Rattle.st_rules.specs.ClientPasses.{operate_by, operate_under, reduce, reduce_idle, reductions, reduce_each, files_demanded, writes, writes_by, write_each, greeting, greeting_by, greet, requests, requests_by, requests_under}
-use Rattle.st_rules.specs.ClientState.{ClientSession, Turn, keep, is_serving}
+use Rattle.st_rules.specs.ClientPasses.{operate_by, operate_under, may_reduce, reduce, reduce_by, reduce_idle, reductions, reduce_each, files_demanded, writes, writes_by, greeting, greeting_by, greet, hello, must_greet, requests, requests_at, requests_by, requests_under}
+use Rattle.st_rules.specs.ClientState.{ClientSession, Turn, keep, send}
 use Rattle.st_rules.specs.Keys.{rising}
 use Rattle.st_client_association.specs.Turns.{has_session, session_of}
 
@@ -43,13 +38,15 @@ pub operate_without : (all : List Operation) (t : Turn) (now : Stamp) (o : Opera
 unfolding operate_by
 operate_without all t now o h = ap (operate_by all t now o) (no_session t h)
 
-pub reduce_with : (t : Turn) (ino : ℕ) → has_session t ≡ true → reduce t ino t.here.session ≡ reduce_idle t (session_of t) ino
+reduce_with : (t : Turn) (ino : ℕ) → has_session t ≡ true → reduce t ino t.here.session ≡ reduce_idle t (session_of t) ino
 unfolding reduce
 reduce_with t ino h = ap (reduce t ino) (session_is t h)
 
-pub reduce_without : (t : Turn) (ino : ℕ) → has_session t ≡ false → reduce t ino t.here.session ≡ t
-unfolding reduce
-reduce_without t ino h = ap (reduce t ino) (no_session t h)
+-- a file is reduced if it may be
+pub reduces : (t : Turn) (ino : ℕ) (b : Bool) → has_session t ≡ true → may_reduce t (session_of t) ino ≡ b →
+    reduce t ino t.here.session ≡ (if b then reduce_by t (session_of t) ino (locks.reduce (session_of t).locks ino) else t)
+unfolding reduce_idle
+reduces t ino b h e = reduce_with t ino h ∙ ap (λ (b : Bool). if b then reduce_by t (session_of t) ino (locks.reduce (session_of t).locks ino) else t) e
 
 pub reductions_with : (t : Turn) → has_session t ≡ true → reductions t ≡ reduce_each (locks.demanded_files (session_of t).locks) t
 unfolding reductions
@@ -72,8 +69,9 @@ pub reductions_without : (t : Turn) → has_session t ≡ false → reductions t
 unfolding reductions reduce_each
 reductions_without t h = ap (λ s. reduce_each (files_demanded s) t) (no_session t h)
 
-pub writes_with : (now : Stamp) (tick : Bool) (t : Turn) → has_session t ≡ true → writes now tick t ≡ write_each (session_of t) now tick (pages.dirty_places t.here.store.pages) t
-unfolding writes writes_by
+-- the dirty pages are looked at
+pub writes_with : (now : Stamp) (tick : Bool) (t : Turn) → has_session t ≡ true → writes now tick t ≡ writes_by t now tick (Some (session_of t))
+unfolding writes
 writes_with now tick t h = ap (writes_by t now tick) (session_is t h)
 
 pub writes_without : (now : Stamp) (tick : Bool) (t : Turn) → has_session t ≡ false → writes now tick t ≡ t
@@ -96,4 +94,34 @@ pub requests_without : (now : Stamp) (tick : Bool) (t : Turn) → has_session t 
 unfolding requests requests_by
 requests_without now tick t h = ap (requests_by t now tick) (no_session t h)
 
--- Leases.
+-- With a session the client doesn't greet, and asks unless the lease is condemned.
+module _ (now : Stamp) (tick : Bool) (t : Turn) where
+  asks_with : has_session t ≡ true → requests now tick (greeting now tick t) ≡ requests_under t (session_of t) now tick
+  asks_with h = ap (requests now tick) (greeting_with now tick t h) ∙ requests_with now tick t h
+
+  under_as : (b : Bool) → (session_of t).lease.condemned ≡ b → requests_under t (session_of t) now tick ≡ (if b then t else requests_at t (session_of t) now tick (session_of t).requests.asked)
+  unfolding requests_under
+  under_as b e = ap (λ (b : Bool). if b then t else requests_at t (session_of t) now tick (session_of t).requests.asked) e
+
+  pub asks_nothing : has_session t ≡ true → (session_of t).lease.condemned ≡ true → t ≡ requests now tick (greeting now tick t)
+  asks_nothing h e = sym (asks_with h ∙ under_as true e)
+
+  pub asks_at : has_session t ≡ true → (session_of t).lease.condemned ≡ false → requests_at t (session_of t) now tick (session_of t).requests.asked ≡ requests now tick (greeting now tick t)
+  asks_at h e = sym (asks_with h ∙ under_as false e)
+
+  -- Without a session it may greet, and asks nothing.
+  greets_without : has_session t ≡ false → has_session (greet t now tick) ≡ false
+  unfolding greet hello send
+  greets_without h = by (must_greet t now tick)
+    where
+      by : (b : Bool) → has_session (if b then hello t now else t) ≡ false
+      by true = h
+      by false = h
+
+  pub greets_alone : has_session t ≡ false → greet t now tick ≡ requests now tick (greeting now tick (writes now tick (reductions t)))
+  greets_alone h =
+      sym
+      (ap (λ u. requests now tick (greeting now tick (writes now tick u))) (reductions_without t h)
+      ∙ ap (λ u. requests now tick (greeting now tick u)) (writes_without now tick t h)
+      ∙ ap (requests now tick) (greeting_without now tick t h)
+      ∙ requests_without now tick (greet t now tick) (greets_without h))

@@ -1,6 +1,6 @@
 -- Writes of one dirty page.
 use Rattle.std.proofs.Common.{◌≡◌, ℕ, zero, suc, ◌+◌, ◌<◌, length, drop, get_or, subst, arith, add-one, Bool, true, false, ◌==◌, not, cond, if◌then◌else◌, List, [], ◌∷◌, Option, Some, None, refl, sym, ap, ◌∙◌, true≢false}
-use Rattle.std.specs.Prelude.{find, is_some}
+use Rattle.std.specs.Prelude.{find}
 use Rattle.std.specs.Option.{option_map_or}
 use Rattle.std.proofs.lemmas.Bool.{and_parts, eqb-true, not-true}
 use Rattle.st_base.specs.declared.ids.PageNo.{PageNo}
@@ -8,13 +8,12 @@ use Rattle.st_base.specs.declared.ids.Stamp.{Stamp}
 use Rattle.st_rules.specs.Keys.{same_page}
 use Rattle.st_rules.specs.declared.client.MappedBlock.{MappedBlock}
 use Rattle.st_rules.specs.declared.pages.DirtyPage.{DirtyPage}
-use Rattle.st_rules.specs.ClientInvariants.{lasts_here, lasts_in}
 use Rattle.st_rules.specs.ClientPages as pages
 use Rattle.st_rules.specs.ClientPages.{is_dirty_of}
 use Rattle.st_rules.specs.ClientPasses as passes
 use Rattle.st_rules.specs.ClientPasses.{is_writable, submit_command, submit_write, write_out, write_out_at, write_due, write_each, write_page}
 use Rattle.st_rules.specs.ClientState.{ClientSession, Turn}
-use Rattle.st_client_association.specs.Turns.{has_session, session_of}
+use Rattle.st_client_association.specs.Turns.{session_of}
 use Rattle.st_client_passes.specs.PassConditions.{SameSession}
 
 -- what is found at a place is of that place

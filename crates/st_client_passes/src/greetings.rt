@@ -33,8 +33,9 @@ fn must_greet(t: &Turn, now: Stamp, tick: bool) -> bool
     t.operations().any(&here) && is_greeting_due(t, now, tick)
 }
 
+/// Greeting, if an operation of this server is pending.
 #[tactic(auto, unfolding(st_rules::specs::ClientPasses::greet, st_rules::specs::ClientPasses::hello))]
-fn greet(t: &mut Turn, now: Stamp, tick: bool) -> Result<(), AllocError>
+pub fn greet(t: &mut Turn, now: Stamp, tick: bool) -> Result<(), AllocError>
     ensures { OnOk result (t.new ≡ passes.greet t.old now tick) }
 {
     if must_greet(t, now, tick) {
@@ -42,16 +43,5 @@ fn greet(t: &mut Turn, now: Stamp, tick: bool) -> Result<(), AllocError>
         t.send(0, 0, now.0, Body::Hello)
     } else {
         Ok(())
-    }
-}
-
-/// Greeting: without a session, if an operation of this server is pending.
-pub fn greeting(t: &mut Turn, now: Stamp, tick: bool) -> Result<(), AllocError>
-    ensures { OnOk result (t.new ≡ passes.greeting now tick t.old) }
-{
-    if t.has_session() {
-        Ok(())
-    } else {
-        greet(t, now, tick)
     }
 }

@@ -1,17 +1,17 @@
 // Reductions: a demanded file that is idle and not busy is reduced to what is demanded.
-ghost use Rattle.std.specs.Prelude.{◌≡◌, true, Some, IfOk, OnOk};
-ghost use Rattle.st_client_association.specs.Turns.{has_session, session_of};
+ghost use Rattle.std.specs.Prelude.{◌≡◌, OnOk};
+ghost use Rattle.st_client_association.specs.Turns.{session_of};
 ghost use Rattle.st_rules.specs.ClientLocks as locks;
 ghost use Rattle.st_rules.specs.ClientPasses as passes;
 ghost use Rattle.st_rules.specs.ClientState as client_state;
 
 use st_base::{GrantNo, Mode, PageNo};
-use st_client_association::{Turn, is_busy};
+use st_client_association::{SessionTurn, Turn, is_busy};
 use st_client_session::Session;
 use std::alloc::AllocError;
 
 /// If the lock is gone, the clean pages and extents of the file go too.
-fn forget(t: &mut Turn, ino: u32, to: Mode)
+fn forget(t: &mut SessionTurn, ino: u32, to: Mode)
     ensures { t.new ≡ client_state.with_store (passes.forgotten_at ino to t.old.here.store) t.old }
 {
     match to {
@@ -21,8 +21,7 @@ fn forget(t: &mut Turn, ino: u32, to: Mode)
 }
 
 #[tactic(auto, unfolding(st_rules::specs::ClientPasses::reduce_to))]
-fn reduce_to(t: &mut Turn, ino: u32, g: GrantNo, to: Mode) -> Result<(), AllocError>
-    requires { has_session t.old ≡ true }
+fn reduce_to(t: &mut SessionTurn, ino: u32, g: GrantNo, to: Mode) -> Result<(), AllocError>
     ensures { OnOk result (t.new ≡ passes.reduce_to t.old (session_of t.old) ino g to) }
 {
     t.release(ino, g, to)?;
@@ -31,8 +30,7 @@ fn reduce_to(t: &mut Turn, ino: u32, g: GrantNo, to: Mode) -> Result<(), AllocEr
 }
 
 #[tactic(auto, unfolding(st_rules::specs::ClientPasses::reduce_by, st_rules::specs::ClientPasses::reduce_given))]
-fn reduce_by(t: &mut Turn, ino: u32) -> Result<(), AllocError>
-    requires { has_session t.old ≡ true }
+fn reduce_by(t: &mut SessionTurn, ino: u32) -> Result<(), AllocError>
     ensures { OnOk result (t.new ≡ passes.reduce_by t.old (session_of t.old) ino (locks.reduce (session_of t.old).locks ino)) }
 {
     match t.reduce_lock(ino) {
@@ -47,30 +45,19 @@ fn may_reduce(t: &Turn, session: &Session, ino: u32) -> bool
     t.is_idle(ino) && !is_busy(t.operations(), t.server(), session, ino)
 }
 
-#[tactic(auto, unfolding(st_rules::specs::ClientPasses::reduce_idle))]
-fn reduce_idle(t: &mut Turn, ino: u32) -> Result<(), AllocError>
-    requires { has_session t.old ≡ true }
-    ensures { OnOk result (t.new ≡ passes.reduce_idle t.old (session_of t.old) ino) }
+/// A demanded file that may be reduced.
+fn reduce(t: &mut SessionTurn, ino: u32) -> Result<(), AllocError>
+    ensures { OnOk result (t.new ≡ passes.reduce t.old ino t.old.here.session) }
 {
-    if may_reduce(t, t.session(), ino) {
+    if may_reduce(t.turn(), t.session(), ino) {
         reduce_by(t, ino)
     } else {
         Ok(())
     }
 }
 
-fn reduce(t: &mut Turn, ino: u32) -> Result<(), AllocError>
-    ensures { OnOk result (t.new ≡ passes.reduce t.old ino t.old.here.session) }
-{
-    if t.has_session() {
-        reduce_idle(t, ino)
-    } else {
-        Ok(())
-    }
-}
-
 #[tactic(auto, unfolding(st_rules::specs::ClientPasses::reduce_each))]
-fn reduce_each(t: &mut Turn, files: &[u32]) -> Result<(), AllocError>
+fn reduce_each(t: &mut SessionTurn, files: &[u32]) -> Result<(), AllocError>
     ensures { OnOk result (t.new ≡ passes.reduce_each files.now t.old) }
 {
     for ino in files {
@@ -81,32 +68,19 @@ fn reduce_each(t: &mut Turn, files: &[u32]) -> Result<(), AllocError>
 
 /// The demanded files, in rising order.
 #[tactic(auto, unfolding(st_rules::specs::ClientPasses::reductions))]
-fn reduce_all(t: &mut Turn) -> Result<(), AllocError>
-    requires { has_session t.old ≡ true }
+fn reduce_all(t: &mut SessionTurn) -> Result<(), AllocError>
     ensures { OnOk result (t.new ≡ passes.reductions t.old) }
 {
     let files = t.session().demanded_files()?;
     reduce_each(t, files.as_slice())
 }
 
-/// If no file is demanded there are none.
-fn reduce_demanded(t: &mut Turn) -> Result<(), AllocError>
-    requires { has_session t.old ≡ true }
+/// Reductions, by rising file. If no file is demanded there are none.
+pub fn reductions(t: &mut SessionTurn) -> Result<(), AllocError>
     ensures { OnOk result (t.new ≡ passes.reductions t.old) }
 {
     if t.session().has_demands() {
         reduce_all(t)
-    } else {
-        Ok(())
-    }
-}
-
-/// Reductions, by rising file.
-pub fn reductions(t: &mut Turn) -> Result<(), AllocError>
-    ensures { OnOk result (t.new ≡ passes.reductions t.old) }
-{
-    if t.has_session() {
-        reduce_demanded(t)
     } else {
         Ok(())
     }

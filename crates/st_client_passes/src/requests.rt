@@ -1,6 +1,6 @@
 // Requests to a server: the outstanding one again, or a new one.
-ghost use Rattle.std.specs.Prelude.{◌≡◌, false, true, OnOk};
-ghost use Rattle.st_client_association.specs.Turns.{has_session, session_of};
+ghost use Rattle.std.specs.Prelude.{◌≡◌, false, true, IfOk, OnOk};
+ghost use Rattle.st_client_association.specs.Turns.{session_of};
 ghost use Rattle.st_rules.specs.ClientLease as leases;
 ghost use Rattle.st_rules.specs.ClientPasses as passes;
 ghost use Rattle.st_rules.specs.ClientState as client_state;
@@ -9,7 +9,7 @@ ghost use Rattle.st_client_passes.specs.Requests.{asking_at, is_free, marked_if}
 use crate::next_request::first_asking;
 use crate::wants::Wanted;
 use st_base::{LockRows, PageNo, Stamp};
-use st_client_association::Turn;
+use st_client_association::{SessionTurn, Turn};
 use st_messages::Body;
 use st_rules::Phase;
 use std::alloc::AllocError;
@@ -27,8 +27,7 @@ fn is_renewing(phase: Phase) -> bool
 }
 
 #[tactic(auto, unfolding(st_rules::specs::ClientPasses::keep_alive))]
-fn keep_alive(t: &mut Turn, now: Stamp) -> Result<(), AllocError>
-    requires session { has_session t.old ≡ true }
+fn keep_alive(t: &mut SessionTurn, now: Stamp) -> Result<(), AllocError>
     requires free { is_free t.old ≡ true }
     ensures { OnOk result (t.new ≡ passes.keep_alive t.old (session_of t.old) now) }
 {
@@ -40,14 +39,14 @@ fn keep_alive(t: &mut Turn, now: Stamp) -> Result<(), AllocError>
 }
 
 /// The request of the operation at a place was sent, if it is its own.
-fn mark_if(t: &mut Turn, own: bool, place: usize) -> Result<(), AllocError>
+fn mark_if(t: &mut SessionTurn, own: bool, place: usize) -> Result<(), AllocError>
     ensures { OnOk result (t.new ≡ client_state.with_operations (marked_if own place t.old.operations) t.old) }
 {
     if own { t.mark_sent(place) } else { Ok(()) }
 }
 
 /// The clean pages and extents of a file that is cut are dropped.
-fn cut(t: &mut Turn, cut: Option<(u32, PageNo)>)
+fn cut(t: &mut SessionTurn, cut: Option<(u32, PageNo)>)
     ensures { t.new ≡ client_state.with_store (passes.cut_store cut t.old.here.store) t.old }
 {
     match cut {
@@ -67,8 +66,7 @@ fn file_cut(cut: Option<(u32, PageNo)>) -> Option<u32>
 
 /// The request of the operation at a place.
 #[tactic(auto, unfolding(st_rules::specs::ClientPasses::ask_for))]
-fn ask_for(t: &mut Turn, now: Stamp, place: usize, wanted: Wanted) -> Result<(), AllocError>
-    requires session { has_session t.old ≡ true }
+fn ask_for(t: &mut SessionTurn, now: Stamp, place: usize, wanted: Wanted) -> Result<(), AllocError>
     requires free { is_free t.old ≡ true }
     ensures { OnOk result (t.new ≡ passes.ask_for t.old (session_of t.old) now (asking_at t.old.operations (place, wanted))) }
 {
@@ -78,20 +76,18 @@ fn ask_for(t: &mut Turn, now: Stamp, place: usize, wanted: Wanted) -> Result<(),
 }
 
 /// What the first operation asks that asks, or a keep-alive.
-fn ask_for_or(t: &mut Turn, now: Stamp) -> Result<(), AllocError>
-    requires session { has_session t.old ≡ true }
+fn ask_for_or(t: &mut SessionTurn, now: Stamp) -> Result<(), AllocError>
     requires free { is_free t.old ≡ true }
     ensures { OnOk result (t.new ≡ passes.ask_for_or t.old (session_of t.old) now (passes.first_asking t.old (session_of t.old) now t.old.operations)) }
 {
-    match first_asking(t, t.session(), now)? {
+    match first_asking(t.turn(), t.session(), now)? {
         None => keep_alive(t, now),
         Some((place, wanted)) => ask_for(t, now, place, wanted),
     }
 }
 
 #[tactic(auto, unfolding(st_rules::specs::ClientPasses::ask_next))]
-fn ask_next(t: &mut Turn, now: Stamp) -> Result<(), AllocError>
-    requires session { has_session t.old ≡ true }
+fn ask_next(t: &mut SessionTurn, now: Stamp) -> Result<(), AllocError>
     requires free { is_free t.old ≡ true }
     ensures { OnOk result (t.new ≡ passes.ask_next t.old (session_of t.old) now) }
 {
@@ -103,8 +99,7 @@ fn ask_next(t: &mut Turn, now: Stamp) -> Result<(), AllocError>
 }
 
 /// A release, or whatever else is due.
-fn ask_by(t: &mut Turn, now: Stamp) -> Result<(), AllocError>
-    requires session { has_session t.old ≡ true }
+fn ask_by(t: &mut SessionTurn, now: Stamp) -> Result<(), AllocError>
     requires free { is_free t.old ≡ true }
     ensures { OnOk result (t.new ≡ passes.ask_by t.old (session_of t.old) now (session_of t.old).releases) }
 {
@@ -123,8 +118,7 @@ fn ask_by(t: &mut Turn, now: Stamp) -> Result<(), AllocError>
 
 /// All locks are reasserted, if that is due.
 #[tactic(auto, unfolding(st_rules::specs::ClientPasses::ask_new, st_rules::specs::ClientPasses::reassert))]
-fn ask_new(t: &mut Turn, now: Stamp) -> Result<(), AllocError>
-    requires session { has_session t.old ≡ true }
+fn ask_new(t: &mut SessionTurn, now: Stamp) -> Result<(), AllocError>
     requires free { is_free t.old ≡ true }
     ensures { OnOk result (t.new ≡ passes.ask_new t.old (session_of t.old) now) }
 {
@@ -137,8 +131,7 @@ fn ask_new(t: &mut Turn, now: Stamp) -> Result<(), AllocError>
 }
 
 /// The outstanding request once more: on a tick, when it is old.
-fn repeat(t: &mut Turn, now: Stamp, tick: bool) -> Result<(), AllocError>
-    requires session { has_session t.old ≡ true }
+fn repeat(t: &mut SessionTurn, now: Stamp, tick: bool) -> Result<(), AllocError>
     requires waiting { is_free t.old ≡ false }
     ensures { OnOk result (t.new ≡ passes.requests_at t.old (session_of t.old) now tick (session_of t.old).requests.asked) }
 {
@@ -146,8 +139,7 @@ fn repeat(t: &mut Turn, now: Stamp, tick: bool) -> Result<(), AllocError>
 }
 
 /// With one outstanding, or none.
-fn requests_at(t: &mut Turn, now: Stamp, tick: bool) -> Result<(), AllocError>
-    requires session { has_session t.old ≡ true }
+fn requests_at(t: &mut SessionTurn, now: Stamp, tick: bool) -> Result<(), AllocError>
     ensures { OnOk result (t.new ≡ passes.requests_at t.old (session_of t.old) now tick (session_of t.old).requests.asked) }
 {
     if t.session().has_asked() {
@@ -157,26 +149,14 @@ fn requests_at(t: &mut Turn, now: Stamp, tick: bool) -> Result<(), AllocError>
     }
 }
 
-/// Nothing is asked under a condemned lease.
-#[tactic(auto, unfolding(st_rules::specs::ClientPasses::requests_under))]
-fn requests_under(t: &mut Turn, now: Stamp, tick: bool) -> Result<(), AllocError>
-    requires session { has_session t.old ≡ true }
-    ensures { OnOk result (t.new ≡ passes.requests_under t.old (session_of t.old) now tick) }
+/// Requests, under a lease that is not condemned. With a session the client doesn't greet.
+pub fn requests(mut t: SessionTurn, now: Stamp, tick: bool) -> Result<Turn, AllocError>
+    ensures { IfOk result (λ u. u ≡ passes.requests now tick (passes.greeting now tick t)) }
 {
     if t.session().is_condemned() {
-        Ok(())
+        Ok(t.into_turn())
     } else {
-        requests_at(t, now, tick)
-    }
-}
-
-/// Requests, with a session that is not condemned.
-pub fn requests(t: &mut Turn, now: Stamp, tick: bool) -> Result<(), AllocError>
-    ensures { OnOk result (t.new ≡ passes.requests now tick t.old) }
-{
-    if t.has_session() {
-        requests_under(t, now, tick)
-    } else {
-        Ok(())
+        requests_at(&mut t, now, tick)?;
+        Ok(t.into_turn())
     }
 }

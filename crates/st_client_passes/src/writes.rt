@@ -1,15 +1,16 @@
 // Writes of dirty pages to their disks.
-ghost use Rattle.std.specs.Prelude.{◌≡◌, false, true, OnOk};
+ghost use Rattle.std.specs.Prelude.{◌≡◌, false, true, OnOk, Some};
 ghost use Rattle.std.specs.Option.{option_map_or};
-ghost use Rattle.st_client_association.specs.Turns.{has_session, session_of};
+ghost use Rattle.st_client_association.specs.Turns.{session_of};
 ghost use Rattle.st_rules.specs.ClientInvariants.{lasts_here};
 ghost use Rattle.st_rules.specs.declared.pages.DirtyPage.{DirtyPage};
+ghost use Rattle.st_rules.specs.ClientLease as leases;
 ghost use Rattle.st_rules.specs.ClientPages as pages;
 ghost use Rattle.st_rules.specs.ClientPasses as passes;
 ghost use Rattle.st_client_passes.specs.PassConditions.{MayRest, drains_at};
 
 use st_base::{Mode, PageNo, ServerId, Stamp};
-use st_client_association::{DirtyRow, Turn};
+use st_client_association::{DirtyRow, SessionTurn, Turn};
 use st_client_session::Session;
 use st_operations::{CutOn, SyncOn, Test, is_cut_or_name, is_of, is_sent, is_sync};
 use st_rules::{Operation, StandingKind};
@@ -56,45 +57,41 @@ fn is_wanted(t: &Turn, session: &Session, ino: u32) -> bool
 }
 
 /// Whether all dirty pages are submitted: the lease is in flush.
-fn drains(t: &Turn, now: Stamp) -> bool
-    requires { has_session t.now ≡ true }
-    ensures { result ≡ drains_at t.now now }
+fn drains(session: &Session, now: Stamp) -> bool
+    ensures { result ≡ leases.may_drain (leases.standing_of session.now.of.config session.now.session.lease now) }
 {
-    match t.session().standing(now) {
+    match session.standing(now) {
         StandingKind::Drain => true,
         _ => false,
     }
 }
 
 #[tactic(auto, unfolding(st_rules::specs::ClientPasses::is_due))]
-fn is_due(t: &Turn, now: Stamp, tick: bool, page: &DirtyRow<'_>) -> bool
-    requires { has_session t.now ≡ true }
+fn is_due(t: &SessionTurn, now: Stamp, tick: bool, page: &DirtyRow<'_>) -> bool
     ensures { result ≡ passes.is_due t.now (session_of t.now) now tick page.now }
 {
-    if drains(t, now) {
+    if drains(t.session(), now) {
         !page.has_failed()
     } else {
-        is_wanted(t, t.session(), page.ino()) && (!page.has_failed() || tick)
+        is_wanted(t.turn(), t.session(), page.ino()) && (!page.has_failed() || tick)
     }
 }
 
 /// Whether the page must be written now.
-fn is_writable(t: &Turn, now: Stamp, tick: bool, page: &DirtyRow<'_>) -> bool
-    requires { has_session t.now ≡ true }
+fn is_writable(t: &SessionTurn, now: Stamp, tick: bool, page: &DirtyRow<'_>) -> bool
     ensures { result ≡ passes.is_writable t.now (session_of t.now) now tick page.now }
 {
-    !t.is_being_written(page.ino(), page.page()) && is_due(t, now, tick, page)
+    !t.turn().is_being_written(page.ino(), page.page()) && is_due(t, now, tick, page)
 }
 
 /// The page, which is dirty and not being written, is written if it is known to lie.
 #[tactic(auto, unfolding(st_rules::specs::ClientPasses::write_out, st_rules::specs::ClientPasses::write_out_at))]
-fn write_out(t: &mut Turn, now: Stamp, ino: u32, page: PageNo) -> Result<(), AllocError>
-    requires session { has_session t.old ≡ true }
+fn write_out(t: &mut SessionTurn, now: Stamp, ino: u32, page: PageNo) -> Result<(), AllocError>
     requires lasting { lasts_here t.old.config now t.old.here ≡ true }
     requires free { pages.is_being_written t.old.here.store.commands ino page ≡ false }
     ensures { OnOk result ((d : DirtyPage) → pages.dirty_of t.old.here.store.pages ino page ≡ Some d → t.new ≡ passes.write_out t.old d) }
 {
-    match t.mapping(ino, page) {
+    match t.turn().mapping(ino, page) {
         None => Ok(()),
         Some(mapping) => {
             t.submit_write(now, ino, page, mapping)?;
@@ -105,11 +102,10 @@ fn write_out(t: &mut Turn, now: Stamp, ino: u32, page: PageNo) -> Result<(), All
 
 /// Whether the dirty page at a place must be written now. It isn't if no page of the place is
 /// dirty.
-fn is_place_due(t: &Turn, now: Stamp, tick: bool, ino: u32, page: PageNo) -> bool
-    requires { has_session t.now ≡ true }
+fn is_place_due(t: &SessionTurn, now: Stamp, tick: bool, ino: u32, page: PageNo) -> bool
     ensures { result ≡ option_map_or (passes.is_writable t.now (session_of t.now) now tick) (pages.dirty_of t.now.here.store.pages ino page) false }
 {
-    match t.dirty(ino, page) {
+    match t.turn().dirty(ino, page) {
         None => false,
         Some(dirty) => is_writable(t, now, tick, &dirty),
     }
@@ -117,13 +113,12 @@ fn is_place_due(t: &Turn, now: Stamp, tick: bool, ino: u32, page: PageNo) -> boo
 
 /// The page of a place, if it is dirty and due.
 fn write_page(
-    t: &mut Turn,
+    t: &mut SessionTurn,
     now: Stamp,
     tick: bool,
     ino: u32,
     page: PageNo,
 ) -> Result<(), AllocError>
-    requires session { has_session t.old ≡ true }
     requires lasting { lasts_here t.old.config now t.old.here ≡ true }
     ensures { OnOk result (t.new ≡ passes.write_page t.old (session_of t.old) now tick (pages.dirty_of t.old.here.store.pages ino page)) }
 {
@@ -136,12 +131,11 @@ fn write_page(
 
 #[tactic(auto, unfolding(st_rules::specs::ClientPasses::write_each))]
 fn write_each(
-    t: &mut Turn,
+    t: &mut SessionTurn,
     now: Stamp,
     tick: bool,
     places: &[(u32, PageNo)],
 ) -> Result<(), AllocError>
-    requires session { has_session t.old ≡ true }
     requires lasting { lasts_here t.old.config now t.old.here ≡ true }
     ensures { OnOk result (t.new ≡ passes.write_each (session_of t.old) now tick places.now t.old) }
 {
@@ -152,12 +146,11 @@ fn write_each(
 }
 
 /// The dirty pages, by rising file and page.
-fn write_all(t: &mut Turn, now: Stamp, tick: bool) -> Result<(), AllocError>
-    requires session { has_session t.old ≡ true }
+fn write_all(t: &mut SessionTurn, now: Stamp, tick: bool) -> Result<(), AllocError>
     requires lasting { lasts_here t.old.config now t.old.here ≡ true }
-    ensures { OnOk result (t.new ≡ passes.writes now tick t.old) }
+    ensures { OnOk result (t.new ≡ passes.writes_by t.old now tick (Some (session_of t.old))) }
 {
-    let places = t.dirty_places()?;
+    let places = t.turn().dirty_places()?;
     write_each(t, now, tick, places.as_slice())
 }
 
@@ -170,40 +163,26 @@ fn wants(t: &Turn, session: &Session) -> bool
 }
 
 /// In other phases than flush: if no file is wanted, no page is looked at.
-fn write_wanted(t: &mut Turn, now: Stamp, tick: bool) -> Result<(), AllocError>
-    requires session { has_session t.old ≡ true }
+fn write_wanted(t: &mut SessionTurn, now: Stamp, tick: bool) -> Result<(), AllocError>
     requires lasting { lasts_here t.old.config now t.old.here ≡ true }
     requires other { drains_at t.old now ≡ false }
     ensures { OnOk result (t.new ≡ passes.writes now tick t.old) }
 {
-    if wants(t, t.session()) {
+    if wants(t.turn(), t.session()) {
         write_all(t, now, tick)
     } else {
         Ok(())
     }
 }
 
-/// In flush all dirty pages are looked at.
-fn write_by(t: &mut Turn, now: Stamp, tick: bool) -> Result<(), AllocError>
-    requires session { has_session t.old ≡ true }
+/// Writes. In flush all dirty pages are looked at.
+pub fn writes(t: &mut SessionTurn, now: Stamp, tick: bool) -> Result<(), AllocError>
     requires lasting { lasts_here t.old.config now t.old.here ≡ true }
     ensures { OnOk result (t.new ≡ passes.writes now tick t.old) }
 {
-    if drains(t, now) {
+    if drains(t.session(), now) {
         write_all(t, now, tick)
     } else {
         write_wanted(t, now, tick)
-    }
-}
-
-/// Writes.
-pub fn writes(t: &mut Turn, now: Stamp, tick: bool) -> Result<(), AllocError>
-    requires { lasts_here t.old.config now t.old.here ≡ true }
-    ensures { OnOk result (t.new ≡ passes.writes now tick t.old) }
-{
-    if t.has_session() {
-        write_by(t, now, tick)
-    } else {
-        Ok(())
     }
 }

@@ -10,4 +10,4 @@ use Rattle.st_client_passes.proofs.reductions.reduce_all.Goals as goal
 pub returns : goal.returns
 returns c =
     subst (λ u. OnOk c.reduce_each.result (c.reduce_each.new.t ≡ u))
-    (ap (λ files. reduce_each files c.args.t.now) (c.as_slice.ensures.value ∙ c.in_ok-files.ensures ∙ ap (λ (s : ServerSession). demanded_files s.session.locks) c.session.ensures) ∙ sym (reductions_with c.args.t.now c.requires)) c.reduce_each.ensures
+    (ap (λ files. reduce_each files c.args.t.now) (c.as_slice.ensures.value ∙ c.in_ok-files.ensures ∙ ap (λ (s : ServerSession). demanded_files s.session.locks) c.session.ensures.is) ∙ sym (reductions_with c.args.t.now c.session.ensures.held)) c.reduce_each.ensures

@@ -1,10 +1,17 @@
-use Rattle.std.proofs.Common.{◌≡◌, ◌∙◌, sym, subst}
-use Rattle.std.specs.Prelude.{OnOk}
-use Rattle.st_client_passes.proofs.Sessions.{requests_with, requests_without}
+use Rattle.std.proofs.Common.{◌∙◌, ap, sym}
+use Rattle.st_client_session.specs.Sessions.{ServerSession}
+use Rattle.st_client_passes.proofs.Sessions.{asks_at, asks_nothing}
 use Rattle.st_client_passes.proofs.requests.requests.Goals as goal
 
-pub returns-then-has_session : goal.returns-then-has_session
-returns-then-has_session c = subst (λ u. OnOk c.requests_under.result (c.requests_under.new.t ≡ u)) (sym (requests_with c.args.now c.args.tick c.args.t.now (sym c.has_session.ensures ∙ c.if-has_session.true))) c.requests_under.ensures
+pub returns-then-is_condemned : goal.returns-then-is_condemned
+returns-then-is_condemned c =
+    c.into_turn.ensures
+    ∙ asks_nothing c.args.now c.args.tick c.args.t c.session.ensures.held
+    (sym (c.is_condemned.ensures ∙ ap (λ (s : ServerSession). s.session.lease.condemned) c.session.ensures.is) ∙ c.if-is_condemned.true)
 
-pub returns-else-has_session : goal.returns-else-has_session
-returns-else-has_session c = sym (requests_without c.args.now c.args.tick c.args.t.now (sym c.has_session.ensures ∙ c.if-has_session.false))
+pub returns-in_ok-requests_at : goal.returns-in_ok-requests_at
+returns-in_ok-requests_at c =
+    c.into_turn-else-is_condemned.ensures
+    ∙ c.in_ok-requests_at.ensures
+    ∙ asks_at c.args.now c.args.tick c.args.t c.session.ensures.held
+    (sym (c.is_condemned.ensures ∙ ap (λ (s : ServerSession). s.session.lease.condemned) c.session.ensures.is) ∙ c.if-is_condemned.false)

@@ -1,6 +1,7 @@
-use Rattle.std.proofs.Common.{◌∙◌, sym}
-use Rattle.st_client_passes.proofs.Sessions.{writes_without}
+use Rattle.std.proofs.Common.{◌≡◌, sym, subst}
+use Rattle.std.specs.Prelude.{OnOk}
+use Rattle.st_client_passes.proofs.Sessions.{writes_with}
 use Rattle.st_client_passes.proofs.writes.writes.Goals as goal
 
-pub returns-else-has_session : goal.returns-else-has_session
-returns-else-has_session c = sym (writes_without c.args.now c.args.tick c.args.t.now (sym c.has_session.ensures ∙ c.if-has_session.false))
+pub returns-then-drains : goal.returns-then-drains
+returns-then-drains c = subst (λ u. OnOk c.write_all.result (c.write_all.new.t ≡ u)) (sym (writes_with c.args.now c.args.tick c.args.t.now c.session.ensures.held)) c.write_all.ensures

@@ -43,8 +43,8 @@ invariant_of-result g c =
     let one = one_in x.id x.config x.next_command x.out.items x.associations.items c.args.place c.swap_remove-a.result l c.swap_remove-a.ensures.value m in
     let e = c.enter-turn.ensures in
     let k = c.leave-a.ensures.left in
-    let n = c.in_ok-apply.ensures.advances.0.0 in
-    let o = c.in_ok-apply.ensures.advances.0.1 in
+    let n = c.in_ok-turn.ensures.advances.0.0 in
+    let o = c.in_ok-turn.ensures.advances.0.1 in
     let na = ap (λ t. t.next_command) e in
     let nb = ap (λ t. t.next_command) k in
     let oa = ap (λ t. length t.out) e in
@@ -52,8 +52,8 @@ invariant_of-result g c =
     let oc = ap (λ v. length v.items) c.replace-out.ensures.value in
     let next : x.next_command ≤ c.leave-a.result.2 = omega (arith, n, na, nb) in
     let out : length x.out.items ≤ length c.leave-a.result.3.items = omega (arith, o, oa, ob, oc) in
-    let id = ap (λ t. t.id) k ∙ c.in_ok-apply.ensures.advances.1.0 ∙ ap (λ t. t.id) e ∙ one.id in
-    let config = ap (λ t. t.config) k ∙ c.in_ok-apply.ensures.advances.1.1 ∙ ap (λ t. t.config) e ∙ one.config in
+    let id = ap (λ t. t.id) k ∙ c.in_ok-turn.ensures.advances.1.0 ∙ ap (λ t. t.id) e ∙ one.id in
+    let config = ap (λ t. t.config) k ∙ c.in_ok-turn.ensures.advances.1.1 ∙ ap (λ t. t.config) e ∙ one.config in
     let count = c.swap_remove-a.ensures.len in
     let back = c.in_ok-put_back.ensures x.associations.items c.swap_remove-a.result l (omega (arith, count, x.associations.ok.0, c.swap_remove-a.new.self.ok.0)) c.swap_remove-a.ensures.items in
     machine_run x.id x.config x.next_command c.leave-a.result.2 x.out.items c.leave-a.result.3.items (remove x.associations.items c.args.place) c.put_back.new.associations.items c.args.place c.leave-a.result.0
@@ -73,7 +73,7 @@ returns g c =
     let count = c.swap_remove-a.ensures.len in
     let back = c.in_ok-put_back.ensures x.associations.items c.swap_remove-a.result l (omega (arith, count, x.associations.ok.0, c.swap_remove-a.new.self.ok.0)) c.swap_remove-a.ensures.items in
     placed_is run t t rest c.put_back.new.associations.items c.args.place c.swap_remove-a.result c.leave-a.result.0 _ c.enter-turn.result
-    c.leave-a.result.1 c.leave-a.result.2 c.leave-a.result.3.items refl refl back c.leave-a.ensures.left c.in_ok-apply.ensures.run
+    c.leave-a.result.1 c.leave-a.result.2 c.leave-a.result.3.items refl refl back c.leave-a.ensures.left c.in_ok-turn.ensures.run
     (entered_is t c.swap_remove-a.result c.enter-turn.result _ _ _ c.enter-turn.ensures one.id one.config c.take_all-operations.ensures.taken refl (ap (λ v. v.items) c.replace-out.ensures.value))
     ∙ place_is run (turn_of x) x.associations.items rest c.args.place c.swap_remove-a.result l c.swap_remove-a.ensures.value refl refl
     ∙ ap (at_place run c.args.place) told

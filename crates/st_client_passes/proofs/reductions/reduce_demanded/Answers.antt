@@ -1,8 +1,0 @@
-use Rattle.std.proofs.Common.{◌∙◌, ap, sym}
-use Rattle.st_rules.specs.Client.{is_any}
-use Rattle.st_client_session.specs.Sessions.{ServerSession}
-use Rattle.st_client_passes.proofs.Sessions.{reductions_none}
-use Rattle.st_client_passes.proofs.reductions.reduce_demanded.Goals as goal
-
-pub returns-else-has_demands : goal.returns-else-has_demands
-returns-else-has_demands c = sym (reductions_none c.args.t.now c.requires (sym (c.has_demands.ensures ∙ ap (λ (s : ServerSession). is_any s.session.locks.demanded) c.session.ensures) ∙ c.if-has_demands.false))
