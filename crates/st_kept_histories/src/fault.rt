@@ -1,15 +1,6 @@
 use st_stable_file::OpenFault;
 use thiserror::Error;
 
-/// Why the bytes of a new file are not made.
-#[derive(Clone, Copy, Debug, PartialEq, Eq, Error)]
-pub enum FormFault {
-    #[error("an area is too short for the snapshot")]
-    Full,
-    #[error("out of memory")]
-    Memory,
-}
-
 /// Why a server is not opened, in the order of the checks.
 #[derive(Clone, Copy, Debug, PartialEq, Eq, Error)]
 pub enum KeptFault {

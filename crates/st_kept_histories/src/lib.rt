@@ -7,6 +7,6 @@ mod fault;
 mod law;
 mod stage;
 
-pub use fault::{FormFault, KeptFault, KeptRefusal};
+pub use fault::{KeptFault, KeptRefusal};
 pub use law::a_kept_server_outlives_crashes;
 pub use stage::Stage;
