@@ -1,14 +1,14 @@
 -- If nothing waits and nothing is due, rules do nothing.
 use Rattle.st_lemmas.proofs.Words
 use Words.{◌≡◌, ℕ, Bool, true, false, ◌&&◌, ◌||◌, List, [], ◌∷◌, ◌++◌, refl, sym, ap, ◌∙◌, append_assoc, Option, Some, None, ◌==◌, cond, is_some, not, list_any}
-use Words.{ServerId, Stamp, Ask, Body, Header, Operation, Release, Request, DirtyPage}
+use Words.{ServerId, Stamp, Tag, Ask, Body, Header, Operation, PageCommand, Release, Request, DirtyPage}
 use Words.Tables.{and_left, and_right, cond_false, not_false, not_true}
 use Words.asks
-use Words.Client.{is_any, is_over, lose, lose_by, lose_over, take_ask}
+use Words.Client.{finish, finish_at, is_any, is_over, lose, lose_by, lose_over, take_ask}
 use Words.ClientInvariants.{lasts_here, lasts_in}
 use Words.ClientLease.{is_renewing, phase_of}
 use Words.ClientLocks.{demanded_files}
-use Words.ClientPages.{Pages, dirty_places}
+use Words.ClientPages.{Pages, command_of, dirty_places}
 use Words.ClientPasses as passes
 use Words.ClientPasses.{ask_by, ask_new, ask_next, asked_by, asks_or, first_asking, greet, greeting, greeting_by, is_greeting_due, is_old, keep_alive}
 use Words.ClientPasses.{ask_for_or, may_ask, must_greet, operate, operate_by, operate_each, operate_on, operations, reduce_each, reductions, repeat, requests}
@@ -44,6 +44,17 @@ idle_receive now h body os a b e f t i k o =
 pub idle_ask : (op : ℕ) (ask : Ask) (server : ServerId) (operations : List Operation) (a : ClientAssociation) (b : Bool) → b ≡ is_at server a.here → b ≡ false → IsIdle (only_at server (take_ask op ask)) operations a
 unfolding only_at
 idle_ask op ask server os a b e f t i k o = cond_false (is_at server t.here) _ t (ap (is_at server) i ∙ sym e ∙ f)
+
+finish_none : (t : Turn) (o : Option PageCommand) (result : Option (Option (Tag × List ℕ))) → is_some o ≡ false → finish_at t o result ≡ t
+unfolding finish_at
+finish_none t None result e = refl
+finish_none t (Some c) result e = cc
+
+pub idle_finish : (number : ℕ) (result : Option (Option (Tag × List ℕ))) (operations : List Operation) (a : ClientAssociation) (b : Bool) → b ≡ is_some (command_of a.here.store.commands number) →
+    b ≡ false → IsIdle (finish number result) operations a
+unfolding finish
+idle_finish number result os a b e f t h k o =
+    finish_none t (command_of t.here.store.commands number) result (ap (λ x. is_some (command_of x.store.commands number)) h ∙ sym e ∙ f)
 
 -- Operations: none is of the server.
 

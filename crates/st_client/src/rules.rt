@@ -43,9 +43,8 @@ impl Rule for Lose {
         a.is_over(self.now)
     }
 
-    fn apply(&self, mut turn: Turn) -> Result<Turn, AllocError> {
-        lose(&mut turn, self.now)?;
-        Ok(turn)
+    fn apply(&self, turn: Turn) -> Result<Turn, AllocError> {
+        lose(turn, self.now)
     }
 }
 
@@ -64,8 +63,8 @@ impl<'a> Rule for Finish<'a> {
 
     ghost is_ready = { λ r k a. true };
 
-    fn touches(&self, _a: &Association, _operations: &Operations) -> bool {
-        true
+    fn touches(&self, a: &Association, _operations: &Operations) -> bool {
+        a.has_command(self.number)
     }
 
     fn apply(&self, mut turn: Turn) -> Result<Turn, AllocError> {
@@ -94,9 +93,8 @@ impl<'a> Rule for Receive<'a> {
         is_from(&self.message.header, a.server())
     }
 
-    fn apply(&self, mut turn: Turn) -> Result<Turn, AllocError> {
-        receive_at(&mut turn, self.now, self.message.header, &self.message.body)?;
-        Ok(turn)
+    fn apply(&self, turn: Turn) -> Result<Turn, AllocError> {
+        receive_at(turn, self.now, self.message.header, &self.message.body)
     }
 }
 

@@ -3,3 +3,4 @@ pub mod Associations
 pub mod Activity
 pub mod Counts
 pub mod AwaitedGrants
+pub mod Syncs

@@ -1,20 +1,20 @@
-// Pages that are used and changed, and disk commands.
+// Pages that are used and changed with a session, and reads from the disks.
 ghost use Rattle.std.specs.Prelude.{◌≡◌, true, false, None, IfOk, OnOk};
-ghost use Rattle.st_client_association.specs.Turns.{Changes, Reads, has_session, session_of, with_pages};
+ghost use Rattle.st_client_association.specs.Turns.{Changes, Reads, session_of, with_pages};
 ghost use Rattle.st_rules.specs.ClientInvariants.{lasts_here};
 ghost use Rattle.st_rules.specs.ClientPages as pages;
 ghost use Rattle.st_rules.specs.ClientPasses as passes;
 ghost use Rattle.st_rules.specs.ClientState as client;
 
 use crate::outputs::count;
-use crate::turn::Turn;
+use crate::session_turn::SessionTurn;
 use st_base::{Command, PageBytes, PageNo, Stamp};
 use st_client_store::CacheRefusal;
 use st_messages::{Note, Output};
 use st_rules::MappedBlock;
 use std::alloc::AllocError;
 
-impl Turn {
+impl SessionTurn {
     /// Reads a page, which is used.
     fn read_page(
         &mut self,
@@ -22,12 +22,12 @@ impl Turn {
         ino: u32,
         page: PageNo,
     ) -> Result<Option<PageBytes>, AllocError>
-        requires session { has_session self.old ≡ true }
-        requires serving { client.is_serving self.old.config (session_of self.old) now ≡ true }
+        requires { client.is_serving self.old.config (session_of self.old) now ≡ true }
         ensures used { self.new ≡ with_pages (pages.use_page self.old.here.store.pages ino page) self.old }
         ensures bytes { IfOk result (λ bytes. bytes ≡ pages.cached self.old.here.store.pages ino page) }
     {
-        let here = &mut *self.here;
+        let turn = &mut self.turn;
+        let here = &mut *turn.here;
         match &mut here.session {
             Some(session) => session.read(now, &mut here.store, ino, page),
             None => unreachable!(),
@@ -42,8 +42,7 @@ impl Turn {
         ino: u32,
         page: PageNo,
     ) -> Result<Option<PageBytes>, AllocError>
-        requires session { has_session self.old ≡ true }
-        requires serving { client.is_serving self.old.config (session_of self.old) now ≡ true }
+        requires { client.is_serving self.old.config (session_of self.old) now ≡ true }
         ensures { IfOk result (λ bytes. Reads self.old self.new bytes ino page) }
     {
         self.read_page(now, ino, page)
@@ -57,12 +56,12 @@ impl Turn {
         ino: u32,
         page: PageNo,
     ) -> Result<Option<PageBytes>, AllocError>
-        requires session { has_session self.old ≡ true }
-        requires serving { client.is_serving self.old.config (session_of self.old) now ≡ true }
+        requires { client.is_serving self.old.config (session_of self.old) now ≡ true }
         ensures bytes { IfOk result (λ bytes. bytes ≡ pages.cached self.old.here.store.pages ino page) }
         ensures stays { self.new ≡ self.old }
     {
-        let here = &mut *self.here;
+        let turn = &mut self.turn;
+        let here = &mut *turn.here;
         match &mut here.session {
             Some(session) => session.base(now, &here.store, ino, page),
             None => unreachable!(),
@@ -78,26 +77,26 @@ impl Turn {
         page: PageNo,
         mapping: MappedBlock,
     ) -> Result<(), AllocError>
-        requires session { has_session self.old ≡ true }
         requires lasting { lasts_here self.old.config now self.old.here ≡ true }
         requires clean { pages.dirty_of self.old.here.store.pages ino page ≡ None }
         requires unread { pages.is_being_read self.old.here.store.commands ino page ≡ false }
         ensures { OnOk result (self.new ≡ passes.submit_read self.old ino page mapping) }
     {
-        let number = self.next_command;
-        self.out.push(Output::Submit {
+        let turn = &mut self.turn;
+        let number = turn.next_command;
+        turn.out.push(Output::Submit {
             command: number,
             at: mapping.at,
             what: Command::Read { at: mapping.at },
         })?;
         // For its clause `small`: numbers of commands have room for one more output.
-        let _count = count(&self.out);
-        let here = &mut *self.here;
+        let _count = count(&turn.out);
+        let here = &mut *turn.here;
         match &mut here.session {
             Some(session) => session.begin_read(now, &mut here.store, number, ino, page)?,
             None => unreachable!(),
         }
-        self.next_command = number + 1;
+        turn.next_command = number + 1;
         Ok(())
     }
 
@@ -111,21 +110,21 @@ impl Turn {
         bytes: &PageBytes,
         note: Note,
     ) -> Result<bool, AllocError>
-        requires session { has_session self.old ≡ true }
-        requires serving { client.is_serving self.old.config (session_of self.old) now ≡ true }
+        requires { client.is_serving self.old.config (session_of self.old) now ≡ true }
         ensures { IfOk result (λ v. Changes self.old self.new v ino page bytes.now note) }
     {
+        let turn = &mut self.turn;
         // For its clause `small`: numbers of commands have room for one more output.
-        let _count = count(&self.out);
-        self.out.reserve(1)?;
-        let here = &mut *self.here;
+        let _count = count(&turn.out);
+        turn.out.reserve(1)?;
+        let here = &mut *turn.here;
         let changed = match &mut here.session {
             Some(session) => session.change(now, &mut here.store, ino, page, bytes),
             None => unreachable!(),
         };
         match changed {
             Ok(()) => {
-                self.out.push_reserved(Output::Note(note));
+                turn.out.push_reserved(Output::Note(note));
                 Ok(true)
             }
             Err(CacheRefusal::DirtyFull) => Ok(false),

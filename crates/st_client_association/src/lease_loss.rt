@@ -1,12 +1,13 @@
 // A lease that is over: lost pages, and what is emptied.
 ghost use Rattle.std.specs.Prelude.{◌≡◌, ◌+◌, ◌<◌, ◌^◌, true, false, None, Some, IfOk, OnOk, length, unwrap_or};
-ghost use Rattle.st_client_association.specs.Turns.{has_session, most_of, session_of};
+ghost use Rattle.st_client_association.specs.Turns.{most_of};
 ghost use Rattle.st_messages.specs.declared.output.Note.TheVariants as notes;
 ghost use Rattle.st_rules.specs.Client as node;
 ghost use Rattle.st_rules.specs.ClientInvariants.{lasts_here};
 ghost use Rattle.st_rules.specs.ClientPages as pages;
 ghost use Rattle.st_rules.specs.ClientState as client;
 
+use crate::session_turn::SessionTurn;
 use crate::turn::Turn;
 use st_base::{Life, Stamp};
 use st_client_store::{LostPages, Store};
@@ -66,44 +67,47 @@ impl Turn {
         let rows = self.here.lost.tell(ino)?;
         self.answer(op, AppAnswer::Lost(rows))
     }
+}
+
+impl SessionTurn {
+    /// Nothing is left but the lost pages, and the next life begins.
+    fn emptied(self, now: Stamp) -> Turn
+        requires over { lasts_here self.config now self.here ≡ false }
+        requires lives { self.here.life.0 + 1 < most_of self.out }
+        ensures { result ≡ node.empty_here self }
+    {
+        let SessionTurn { mut turn } = self;
+        // For its clause `small`: the number of the next life has room.
+        let _count = crate::outputs::count(&turn.out);
+        let here = &mut *turn.here;
+        match here.session.take() {
+            Some(session) => session.end_lost(&mut here.store, now),
+            None => unreachable!(),
+        }
+        here.greeting = None;
+        here.life = Life(here.life.0 + 1);
+        turn
+    }
 
     /// The dirty pages join the lost ones.
     fn keep_lost(&mut self) -> Result<(), AllocError>
         ensures { OnOk result (self.new ≡ node.with_lost_pages self.old.here.store self.old) }
     {
-        let here = &mut *self.here;
+        let turn = &mut self.turn;
+        let here = &mut *turn.here;
         put_lost(&here.store, &mut here.lost)
-    }
-
-    /// Nothing is left but the lost pages, and the next life begins.
-    fn empty(&mut self, now: Stamp)
-        requires session { has_session self.old ≡ true }
-        requires over { lasts_here self.old.config now self.old.here ≡ false }
-        requires lives { self.old.here.life.0 + 1 < most_of self.old.out }
-        ensures { self.new ≡ node.empty_here self.old }
-    {
-        // For its clause `small`: the number of the next life has room.
-        let _count = crate::outputs::count(&self.out);
-        match self.here.session.take() {
-            Some(session) => session.end_lost(&mut self.here.store, now),
-            None => unreachable!(),
-        }
-        self.here.greeting = None;
-        self.here.life = Life(self.here.life.0 + 1);
     }
 
     /// A lease that is over is noted as lost; each dirty page joins the lost ones; all else but the
     /// pending operations is emptied, and the next life begins.
-    pub fn discard(&mut self, now: Stamp) -> Result<(), AllocError>
-        requires session { has_session self.old ≡ true }
-        requires over { lasts_here self.old.config now self.old.here ≡ false }
-        ensures { OnOk result (self.new ≡ node.empty_here (node.with_lost_pages self.old.here.store (client.note self.old (notes.Lost self.old.here.server self.old.here.life)))) }
+    pub fn discard(mut self, now: Stamp) -> Result<Turn, AllocError>
+        requires { lasts_here self.config now self.here ≡ false }
+        ensures { IfOk result (λ t. t ≡ node.empty_here (node.with_lost_pages self.here.store (client.note self (notes.Lost self.here.server self.here.life)))) }
     {
-        let server = self.here.server;
-        let life = self.life();
+        let server = self.turn().server();
+        let life = self.turn().life();
         self.note(Note::Lost { server, life })?;
         self.keep_lost()?;
-        self.empty(now);
-        Ok(())
+        Ok(self.emptied(now))
     }
 }

@@ -2,6 +2,7 @@
 ghost use Rattle.std.specs.Prelude.{◌≡◌, ◌<◌, ◌^◌, OnOk, length};
 ghost use Rattle.st_rules.specs.ClientState as client;
 
+use crate::session_turn::SessionTurn;
 use crate::turn::Turn;
 use st_messages::{AppAnswer, Body, Header, Message, Note, Output};
 use std::alloc::AllocError;
@@ -63,5 +64,33 @@ impl Turn {
     {
         let header = self.header(epoch, number, stamp);
         self.say(Output::Send(Message { header, body }))
+    }
+}
+
+impl SessionTurn {
+    /// One more note.
+    pub fn note(&mut self, note: Note) -> Result<(), AllocError>
+        ensures { OnOk result (self.new ≡ client.note self.old note) }
+    {
+        let turn = &mut self.turn;
+        turn.out.push(Output::Note(note))?;
+        Ok(())
+    }
+
+    /// One more message to the server.
+    #[tactic(auto, unfolding(st_rules::specs::ClientState::send))]
+    pub fn send(
+        &mut self,
+        epoch: u64,
+        number: u64,
+        stamp: u64,
+        body: Body,
+    ) -> Result<(), AllocError>
+        ensures { OnOk result (self.new ≡ client.send self.old epoch number stamp body) }
+    {
+        let turn = &mut self.turn;
+        let header = turn.header(epoch, number, stamp);
+        turn.out.push(Output::Send(Message { header, body }))?;
+        Ok(())
     }
 }

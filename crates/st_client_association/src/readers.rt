@@ -1,5 +1,5 @@
 // What an association says about itself between steps.
-ghost use Rattle.std.specs.Prelude.{◌≡◌, ◌+◌, false, nat_le, not, Some};
+ghost use Rattle.std.specs.Prelude.{◌≡◌, ◌+◌, false, nat_le, not, is_some, Some};
 ghost use Rattle.std.specs.List.{list_any};
 ghost use Rattle.st_client_association.specs.Associations.{has_room_at, may_ask};
 ghost use Rattle.st_client_association.specs.Activity.{is_awake, is_awake_by, may_send, takes_all};
@@ -56,6 +56,13 @@ impl Association {
         ensures { result ≡ list_any pages.is_any_write self.now.here.store.commands }
     {
         self.here.store.has_write_out()
+    }
+
+    /// Whether a command of this number is outstanding.
+    pub fn has_command(&self, number: u64) -> bool
+        ensures { result ≡ is_some (pages.command_of self.now.here.store.commands number) }
+    {
+        self.here.store.command(number).is_some()
     }
 
     /// Whether a number is left for one more request.

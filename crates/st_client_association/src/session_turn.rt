@@ -20,7 +20,7 @@ use std::marker::Model;
 /// A step at a server with which there is a session. Contracts see it as the definitions' turn.
 #[derive(Drop)]
 pub struct SessionTurn {
-    turn: Turn,
+    pub(crate) turn: Turn,
 }
 
 impl Model for SessionTurn {
@@ -70,7 +70,11 @@ impl SessionTurn {
         ensures is { result.now ≡ record { of = parties_of self.now.id self.now.here.server self.now.here.life self.now.config; session = session_of self.now } }
         ensures held { has_session self.now ≡ true }
     {
-        self.turn.session()
+        let turn = &self.turn;
+        match &turn.here.session {
+            Some(session) => session,
+            None => unreachable!(),
+        }
     }
 
     /// The request of the operation at a place was sent.
@@ -106,8 +110,8 @@ impl SessionTurn {
     pub fn release(&mut self, ino: u32, g: GrantNo, to: Mode) -> Result<(), AllocError>
         ensures { OnOk result (self.new ≡ client.with_session (passes.released (session_of self.old) ino g to) self.old) }
     {
+        self.forget_wait(ino);
         let turn = &mut self.turn;
-        turn.forget_wait(ino);
         match &mut turn.here.session {
             Some(session) => session.queue_release(ino, g, to),
             None => unreachable!(),

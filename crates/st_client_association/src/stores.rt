@@ -5,6 +5,7 @@ ghost use Rattle.st_rules.specs.ClientReplies as replies;
 ghost use Rattle.st_rules.specs.ClientState as client;
 
 use crate::dirty_row::DirtyRow;
+use crate::session_turn::SessionTurn;
 use crate::turn::Turn;
 use st_base::{ExtentRow, PageNo};
 use st_rules::{KnownExtent, MappedBlock};
@@ -83,12 +84,15 @@ impl Turn {
     {
         self.here.store.dirty_places()
     }
+}
 
+impl SessionTurn {
     /// The page is known to have no block.
     pub fn know_unmapped(&mut self, ino: u32, page: PageNo) -> Result<(), AllocError>
         ensures { OnOk result (self.new ≡ client.with_store (replies.with_unmapped ino page self.old.here.store) self.old) }
     {
-        self.here.store.know(KnownExtent {
+        let turn = &mut self.turn;
+        turn.here.store.know(KnownExtent {
             ino,
             page,
             mapping: None,
@@ -99,6 +103,7 @@ impl Turn {
     pub fn know_rows(&mut self, ino: u32, rows: &[ExtentRow]) -> Result<(), AllocError>
         ensures { OnOk result (self.new ≡ client.with_store (replies.with_extents_known ino rows.now self.old.here.store) self.old) }
     {
-        self.here.store.know_rows(ino, rows)
+        let turn = &mut self.turn;
+        turn.here.store.know_rows(ino, rows)
     }
 }

@@ -1,5 +1,6 @@
-ghost use Rattle.std.specs.Prelude.{◌≡◌, ◌+◌, ◌<◌, ◌≤◌, ◌^◌, true};
-ghost use Rattle.st_client_association.specs.Turns.{has_session, most_of, parties_of, session_of};
+ghost use Rattle.std.specs.Prelude.{◌≡◌, ◌+◌, ◌<◌, ◌≤◌, ◌^◌};
+ghost use Rattle.st_client_association.specs.Turns.{has_session, most_of};
+ghost use Rattle.st_rules.specs.ClientLease as leases;
 ghost use Rattle.st_rules.specs.ClientPasses as passes;
 ghost use Rattle.st_rules.specs.ClientReplies as replies;
 ghost use Rattle.st_rules.specs.Keys.{server_node};
@@ -122,41 +123,36 @@ impl Turn {
         self.here.server.node()
     }
 
-    /// A session begins in this epoch. Its lease has this stamp, and is not over yet.
-    pub fn begin_session(&mut self, epoch: Epoch, stamp: Stamp, now: Stamp)
+    /// A session begins in this epoch. Its lease has this stamp, and is not over yet; this returns
+    /// the moment from which it is.
+    pub fn begin_session(&mut self, epoch: Epoch, stamp: Stamp, now: Stamp) -> Stamp
         requires past { stamp.0 ≤ now.0 }
         requires living { now.0 < stamp.0 + self.old.config.lease }
         requires reading { now.0 ≤ 2 ^ 62 }
-        ensures { self.new ≡ replies.begin_here (replies.new_session epoch stamp) self.old }
+        ensures end { result ≡ leases.end_of self.old.config (leases.new_lease stamp) }
+        ensures begun { self.new ≡ replies.begin_here (replies.new_session epoch stamp) self.old }
     {
-        self.here.greeting = None;
-        self.here.session = Some(Session::begin(
+        let here = &mut *self.here;
+        let session = Session::begin(
             self.alloc,
-            self.here.id,
-            self.here.server,
-            self.here.life,
-            &self.here.config,
+            here.id,
+            here.server,
+            here.life,
+            &here.config,
             epoch,
             stamp,
             now,
-        ));
+        );
+        let end = session.end();
+        here.greeting = None;
+        here.session = Some(session);
+        end
     }
 
     /// Whether there is a session.
-    pub fn has_session(&self) -> bool
+    pub(crate) fn has_session(&self) -> bool
         ensures { result ≡ has_session self.now }
     {
         self.here.session.is_some()
-    }
-
-    /// The session.
-    pub fn session(&self) -> &Session
-        requires { has_session self.now ≡ true }
-        ensures { result.now ≡ record { of = parties_of self.now.id self.now.here.server self.now.here.life self.now.config; session = session_of self.now } }
-    {
-        match &self.here.session {
-            Some(session) => session,
-            None => unreachable!(),
-        }
     }
 }

@@ -8,9 +8,6 @@ use Rattle.st_base.specs.declared.ids.ServerId.{ServerId}
 use Rattle.st_base.specs.declared.ids.Stamp.{Stamp}
 use Rattle.st_base.specs.declared.mode.Mode.TheVariants as modes
 use Rattle.st_base.specs.Mode.{covers}
-use Rattle.st_messages.specs.declared.ask.Ask.{Ask}
-use Rattle.st_messages.specs.declared.ask.Ask.TheVariants as asks
-use Rattle.st_operations.specs.PendingOperations.{may_act}
 use Rattle.st_rules.specs.declared.client.DemandedFile.{DemandedFile}
 use Rattle.st_rules.specs.declared.client.Operation.{Operation}
 use Rattle.st_rules.specs.declared.pages.DirtyPage.{DirtyPage}
@@ -21,49 +18,27 @@ use Rattle.st_rules.specs.ClientPasses as passes
 use Rattle.st_rules.specs.ClientPasses.{operate, operate_each, operate_on, operations, is_due, write_due, write_page, write_each, writes_by, writes, is_wanted, is_sync_on, is_cut_on}
 use Rattle.st_rules.specs.ClientState.{ClientSession, Turn, is_of, is_on, is_sync, is_cut_or_name, is_sent, is_file, file_of, keep, with_operations}
 use Rattle.st_rules.specs.Keys.{past, placed, rising, with_key}
-use Rattle.st_client_association.specs.Turns.{has_session}
 use Rattle.st_client_passes.specs.PassConditions.{wants_writes}
-use Rattle.st_client_passes.proofs.Sessions.{operate_without}
-
-and_true : (a : Bool) → (a && true) ≡ a
-and_true true = refl
-and_true false = refl
 
 -- Operations.
 
--- an operation that isn't a sync stays if there is no session
-without_session : (all : List Operation) (now : Stamp) (t : Turn) (o : Operation) (ask : Ask) → has_session t ≡ false → is_sync ask ≡ false → operate_on all t now o ask ≡ keep o t
-unfolding operate_on
-without_session all now t o (asks.Sync f) h e = absurd (true≢false e)
-without_session all now t o (asks.Write f p bytes) h e = operate_without all t now o h
-without_session all now t o (asks.Patch f p at bytes) h e = operate_without all t now o h
-without_session all now t o (asks.Read f p) h e = operate_without all t now o h
-without_session all now t o (asks.Cut f p) h e = operate_without all t now o h
-without_session all now t o (asks.Name server ask) h e = operate_without all t now o h
-
--- an operation for which nothing may be done stays
-no_act : (all : List Operation) (now : Stamp) (t : Turn) (o : Operation) → may_act t.here.server (has_session t) o ≡ false → operate all t now o ≡ keep o t
+-- an operation of another server stays
+no_act : (all : List Operation) (now : Stamp) (t : Turn) (o : Operation) → is_of t.here.server o ≡ false → operate all t now o ≡ keep o t
 unfolding operate
-no_act all now t o h = by (is_of t.here.server o) h
-  where
-    by : (b : Bool) → ((has_session t || is_sync o.ask) && b) ≡ false → (if b then operate_on all t now o o.ask else keep o t) ≡ keep o t
-    by false h = refl
-    by true h =
-        let q = or_parts (has_session t) (is_sync o.ask) (sym (and_true (has_session t || is_sync o.ask)) ∙ h) in
-        without_session all now t o o.ask q.0 q.1
+no_act all now t o h = ap (λ (b : Bool). if b then operate_on all t now o o.ask else keep o t) h
 
 -- so do these
-others_stay : (all : List Operation) (now : Stamp) (os : List Operation) (t : Turn) → list_any (may_act t.here.server (has_session t)) os ≡ false → operate_each all now os t ≡ with_operations (t.operations ++ os) t
+others_stay : (all : List Operation) (now : Stamp) (os : List Operation) (t : Turn) → list_any (is_of t.here.server) os ≡ false → operate_each all now os t ≡ with_operations (t.operations ++ os) t
 unfolding operate_each
 others_stay all now [] t h = λ i. with_operations (sym (append-nil t.operations) i) t
 others_stay all now (o ∷ os) t h =
-    let q = or_parts (may_act t.here.server (has_session t) o) (list_any (may_act t.here.server (has_session t)) os) h in
+    let q = or_parts (is_of t.here.server o) (list_any (is_of t.here.server) os) h in
     ap (operate_each all now os) (no_act all now t o q.0)
     ∙ others_stay all now os (keep o t) q.1
     ∙ (λ i. with_operations (append_assoc t.operations (o ∷ []) os i) t)
 
--- if the pass may do nothing for any operation, it changes nothing
-pub operations_idle : (now : Stamp) (t : Turn) → list_any (may_act t.here.server (has_session t)) t.operations ≡ false → operations now t ≡ t
+-- if no operation is of the server, the pass over them changes nothing
+pub operations_idle : (now : Stamp) (t : Turn) → list_any (is_of t.here.server) t.operations ≡ false → operations now t ≡ t
 unfolding operations
 operations_idle now t h = others_stay t.operations now t.operations (with_operations [] t) h
 

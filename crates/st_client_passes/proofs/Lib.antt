@@ -9,3 +9,4 @@ pub mod Sessions
 pub mod Reducing
 pub mod Writing
 pub mod Repeating
+pub mod WithoutSession

@@ -13,4 +13,10 @@ mod step_end;
 mod wants;
 mod writes;
 
+pub use next_request::{may_ask, need, want_held, want_name};
+pub use operations::is_open_file;
+pub use page_changes::{holds, may_write};
+pub use reductions::may_reduce;
 pub use step_end::passes;
+pub use wants::Wanted;
+pub use writes::is_wanted;

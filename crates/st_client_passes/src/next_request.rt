@@ -17,7 +17,7 @@ use st_rules::{LockWait, Operation};
 use std::alloc::AllocError;
 
 /// The mode that an operation needs: a read shared, and all else exclusive.
-fn need(ask: &Ask) -> Mode
+pub fn need(ask: &Ask) -> Mode
     ensures { result ≡ passes.need ask.now }
 {
     match ask {
@@ -124,7 +124,7 @@ fn name_op(ask: &NameAsk, g: GrantNo) -> Result<NameOp, AllocError>
 
 /// What an ask with the lock that it needs asks.
 #[tactic(auto, unfolding(st_rules::specs::ClientPasses::want_held, st_rules::specs::ClientPasses::want_map))]
-fn want_held(t: &Turn, ask: &Ask, ino: u32, g: GrantNo) -> Result<Option<Wanted>, AllocError>
+pub fn want_held(t: &Turn, ask: &Ask, ino: u32, g: GrantNo) -> Result<Option<Wanted>, AllocError>
     ensures { IfOk result (λ w. w ≡ passes.want_held t.now ask.now ino g) }
 {
     match ask {
@@ -180,7 +180,7 @@ fn want_on(
 
 /// An ask for a name that doesn't remove a file.
 #[tactic(auto, unfolding(st_rules::specs::ClientPasses::want_name))]
-fn want_name(ask: &Ask) -> Result<Option<Wanted>, AllocError>
+pub fn want_name(ask: &Ask) -> Result<Option<Wanted>, AllocError>
     ensures { IfOk result (λ w. w ≡ passes.want_name ask.now) }
 {
     match ask {
@@ -204,7 +204,7 @@ fn want(t: &Turn, session: &Session, now: Stamp, ask: &Ask) -> Result<Option<Wan
 
 /// Whether the operation is of this server, was not sent, and is on a file that is neither demanded
 /// nor busy, or on none.
-fn may_ask(t: &Turn, session: &Session, o: &Operation) -> bool
+pub fn may_ask(t: &Turn, session: &Session, o: &Operation) -> bool
     ensures { result ≡ passes.may_ask t.now session.now.session o.now }
 {
     let server = t.server();

@@ -1,25 +1,26 @@
 // The pass over the pending operations: each is answered, or stays pending.
 ghost use Rattle.std.specs.Prelude.{◌≡◌, ◌+◌, ◌<◌, ◌^◌, [], true, if◌then◌else◌, length, remove, slice_get, IfOk, IfSome, OnOk};
+ghost use Rattle.std.specs.List.{list_any};
 ghost use Rattle.st_client_association.specs.Turns.{has_session, session_of};
 ghost use Rattle.st_operations.specs.PendingOperations.{is_fit};
 ghost use Rattle.st_rules.specs.ClientPasses as passes;
 ghost use Rattle.st_rules.specs.ClientState as client_state;
+ghost use Rattle.st_rules.specs.ClientState.{is_of};
 ghost use Rattle.st_client_passes.specs.PassConditions.{is_serving_at, put_back};
 
 use crate::page_changes::{answer, patch, write};
 use crate::page_reads::read;
 use st_base::{ServerId, Stamp};
-use st_client_association::{Turn, is_open};
+use st_client_association::{SessionTurn, Turn, is_open};
 use st_client_session::Session;
 use st_messages::{AppAnswer, Ask};
-use st_operations::{Operations, file_of, is_of, is_sent};
+use st_operations::{OfServer, Operations, file_of, is_of, is_sent};
 use st_rules::Operation;
 use std::alloc::AllocError;
 
 /// An operation on a file that is neither demanded nor busy.
 #[tactic(auto, using(crate::proofs::Asks::patch_range), unfolding(st_rules::specs::ClientPasses::serve_open))]
-fn serve_open(t: &mut Turn, now: Stamp, o: &Operation) -> Result<bool, AllocError>
-    requires session { has_session t.old ≡ true }
+fn serve_open(t: &mut SessionTurn, now: Stamp, o: &Operation) -> Result<bool, AllocError>
     requires serving { is_serving_at t.old now ≡ true }
     requires fit { is_fit o.now ≡ true }
     ensures left { OnOk result (t.new.operations ≡ t.old.operations) }
@@ -52,17 +53,17 @@ pub fn is_open_file(
 #[tactic(auto, unfolding(st_rules::specs::ClientPasses::operate_under, st_rules::specs::ClientPasses::serve, st_rules::specs::ClientPasses::quiesce))]
 fn operate_under(
     all: &Operations,
-    t: &mut Turn,
+    t: &mut SessionTurn,
     now: Stamp,
     o: &Operation,
 ) -> Result<bool, AllocError>
-    requires session { has_session t.old ≡ true }
     requires fit { is_fit o.now ≡ true }
     ensures left { OnOk result (t.new.operations ≡ t.old.operations) }
+    ensures held { has_session t.old ≡ true }
     ensures stays { IfOk result (λ stays. put_back o.now stays t.new ≡ passes.operate_under all.now t.old (session_of t.old) now o.now) }
 {
     if t.session().is_serving(now) {
-        if is_open_file(all, t.server(), t.session(), file_of(&o.ask)) {
+        if is_open_file(all, t.turn().server(), t.session(), file_of(&o.ask)) {
             serve_open(t, now, o)
         } else {
             Ok(true)
@@ -74,32 +75,39 @@ fn operate_under(
     }
 }
 
-fn operate_by(all: &Operations, t: &mut Turn, now: Stamp, o: &Operation) -> Result<bool, AllocError>
+// The prover needs this step by itself: the next one goes by the kind of the ask.
+fn operate_by(
+    all: &Operations,
+    t: &mut SessionTurn,
+    now: Stamp,
+    o: &Operation,
+) -> Result<bool, AllocError>
     requires fit { is_fit o.now ≡ true }
     ensures left { OnOk result (t.new.operations ≡ t.old.operations) }
     ensures stays { IfOk result (λ stays. put_back o.now stays t.new ≡ passes.operate_by all.now t.old now o.now t.old.here.session) }
 {
-    if t.has_session() {
-        operate_under(all, t, now, o)
-    } else {
-        Ok(true)
-    }
+    operate_under(all, t, now, o)
 }
 
 /// Whether the operation stays pending, after what is done for it. A sync is hard if its file has
 /// no dirty page and no outstanding write.
 #[tactic(auto, unfolding(st_rules::specs::ClientPasses::operate, st_rules::specs::ClientPasses::operate_on, st_rules::specs::ClientPasses::sync))]
-fn stays(all: &Operations, t: &mut Turn, now: Stamp, o: &Operation) -> Result<bool, AllocError>
+fn stays(
+    all: &Operations,
+    t: &mut SessionTurn,
+    now: Stamp,
+    o: &Operation,
+) -> Result<bool, AllocError>
     requires fit { is_fit o.now ≡ true }
     ensures left { OnOk result (t.new.operations ≡ t.old.operations) }
     ensures stays { IfOk result (λ stays. put_back o.now stays t.new ≡ passes.operate all.now t.old now o.now) }
 {
-    if !is_of(t.server(), o) {
+    if !is_of(t.turn().server(), o) {
         return Ok(true);
     }
     match &o.ask {
         Ask::Sync(file) => {
-            if t.is_hard(file.ino) {
+            if t.turn().is_hard(file.ino) {
                 answer(t, o, AppAnswer::Hard)
             } else {
                 Ok(true)
@@ -112,7 +120,7 @@ fn stays(all: &Operations, t: &mut Turn, now: Stamp, o: &Operation) -> Result<bo
 /// Whether the operation at a place stays pending, after what is done for it.
 fn stays_at(
     sent: &Operations,
-    t: &mut Turn,
+    t: &mut SessionTurn,
     now: Stamp,
     all: &Operations,
     place: usize,
@@ -144,7 +152,7 @@ fn settle(all: &mut Operations, place: usize, stays: bool) -> usize
 /// The operations go through the pass, in order; each stays in its place, or is no longer pending.
 fn operate_each(
     sent: &Operations,
-    t: &mut Turn,
+    t: &mut SessionTurn,
     now: Stamp,
     all: &mut Operations,
 ) -> Result<(), AllocError>
@@ -161,22 +169,29 @@ fn operate_each(
 
 /// All pending operations go through the pass; those of other servers stay.
 #[tactic(auto, unfolding(st_rules::specs::ClientPasses::operations))]
-fn operate_all(t: &mut Turn, now: Stamp) -> Result<(), AllocError>
+fn operate_all(t: &mut SessionTurn, now: Stamp) -> Result<(), AllocError>
     ensures { OnOk result (t.new ≡ passes.operations now t.old) }
 {
-    let sent = t.operations().copy_sent()?;
+    let sent = t.turn().operations().copy_sent()?;
     let mut all = t.take_operations();
     operate_each(&sent, t, now, &mut all)?;
     t.set_operations(all);
     Ok(())
 }
 
-/// Operations. If none of this server is pending, or only others than syncs without a session,
-/// all stay.
-pub fn operations(t: &mut Turn, now: Stamp) -> Result<(), AllocError>
+/// Whether an operation of this server is pending.
+fn has_operations(t: &Turn) -> bool
+    ensures { result ≡ list_any (is_of t.now.here.server) t.now.operations }
+{
+    let here = OfServer { server: t.server() };
+    t.operations().any(&here)
+}
+
+/// Operations, with a session. If none of this server is pending, all stay.
+pub fn operations(t: &mut SessionTurn, now: Stamp) -> Result<(), AllocError>
     ensures { OnOk result (t.new ≡ passes.operations now t.old) }
 {
-    if t.operations().any_may_act(t.server(), t.has_session()) {
+    if has_operations(t.turn()) {
         operate_all(t, now)
     } else {
         Ok(())

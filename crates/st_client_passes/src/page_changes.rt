@@ -1,6 +1,6 @@
 // Writes and patches of pages.
 ghost use Rattle.std.specs.Prelude.{◌≡◌, ◌+◌, ◌≤◌, true, IfOk, OnOk, length};
-ghost use Rattle.st_client_association.specs.Turns.{has_session, session_of};
+ghost use Rattle.st_client_association.specs.Turns.{session_of};
 ghost use Rattle.st_rules.specs.ClientPages as pages;
 ghost use Rattle.st_rules.specs.ClientPasses as passes;
 ghost use Rattle.st_rules.specs.ClientState as client_state;
@@ -9,14 +9,14 @@ ghost use Rattle.st_client_passes.specs.PassConditions.{is_serving_at, put_back}
 
 use crate::page_reads::fetch;
 use st_base::{FileId, Mode, PageBytes, PageNo, Stamp};
-use st_client_association::Turn;
+use st_client_association::{SessionTurn, Turn};
 use st_client_session::Session;
 use st_messages::{AppAnswer, Note, PatchBytes};
 use st_rules::Operation;
 use std::alloc::{AllocError, Global};
 
 /// Answers the operation, which is no longer pending.
-pub fn answer(t: &mut Turn, o: &Operation, a: AppAnswer) -> Result<bool, AllocError>
+pub fn answer(t: &mut SessionTurn, o: &Operation, a: AppAnswer) -> Result<bool, AllocError>
     ensures left { OnOk result (t.new.operations ≡ t.old.operations) }
     ensures stays { IfOk result (λ stays. put_back o.now stays t.new ≡ passes.answer o.now a t.old) }
 {
@@ -27,7 +27,7 @@ pub fn answer(t: &mut Turn, o: &Operation, a: AppAnswer) -> Result<bool, AllocEr
 /// A page is changed to these bytes and noted, or too many others are dirty.
 #[tactic(auto, unfolding(st_rules::specs::ClientPasses::change_page, st_rules::specs::ClientPasses::change_by, st_rules::specs::ClientPasses::change))]
 fn change_page(
-    t: &mut Turn,
+    t: &mut SessionTurn,
     now: Stamp,
     o: &Operation,
     file: FileId,
@@ -35,7 +35,6 @@ fn change_page(
     bytes: &PageBytes,
     note: Note,
 ) -> Result<bool, AllocError>
-    requires session { has_session t.old ≡ true }
     requires serving { is_serving_at t.old now ≡ true }
     ensures left { OnOk result (t.new.operations ≡ t.old.operations) }
     ensures stays { IfOk result (λ stays. put_back o.now stays t.new ≡ passes.change_page t.old o.now file page bytes.now note) }
@@ -55,7 +54,7 @@ pub fn holds(session: &Session, mode: Mode, file: FileId) -> bool
 }
 
 /// Whether the page is mapped, and may be changed.
-fn may_write(t: &Turn, session: &Session, file: FileId, page: PageNo) -> bool
+pub fn may_write(t: &Turn, session: &Session, file: FileId, page: PageNo) -> bool
     ensures { result ≡ passes.may_write t.now session.now.session file page }
 {
     holds(session, Mode::X, file) && t.mapping(file.ino, page).is_some()
@@ -63,19 +62,18 @@ fn may_write(t: &Turn, session: &Session, file: FileId, page: PageNo) -> bool
 
 #[tactic(auto, unfolding(st_rules::specs::ClientPasses::write))]
 pub fn write(
-    t: &mut Turn,
+    t: &mut SessionTurn,
     now: Stamp,
     o: &Operation,
     file: FileId,
     page: PageNo,
     bytes: &PageBytes,
 ) -> Result<bool, AllocError>
-    requires session { has_session t.old ≡ true }
     requires serving { is_serving_at t.old now ≡ true }
     ensures left { OnOk result (t.new.operations ≡ t.old.operations) }
     ensures stays { IfOk result (λ stays. put_back o.now stays t.new ≡ passes.write t.old (session_of t.old) o.now file page bytes.now) }
 {
-    if may_write(t, t.session(), file, page) {
+    if may_write(t.turn(), t.session(), file, page) {
         let note = Note::Accepted {
             file,
             page,
@@ -114,7 +112,7 @@ fn patched(
 /// The page is changed to the patched one.
 #[tactic(auto, unfolding(st_rules::specs::ClientPasses::patch_bytes))]
 fn patch_bytes(
-    t: &mut Turn,
+    t: &mut SessionTurn,
     now: Stamp,
     o: &Operation,
     file: FileId,
@@ -123,13 +121,12 @@ fn patch_bytes(
     bytes: &PatchBytes,
     old: &PageBytes,
 ) -> Result<bool, AllocError>
-    requires session { has_session t.old ≡ true }
     requires serving { is_serving_at t.old now ≡ true }
     requires range { at + length bytes.now ≤ 4096 }
     ensures left { OnOk result (t.new.operations ≡ t.old.operations) }
     ensures stays { IfOk result (λ stays. put_back o.now stays t.new ≡ passes.patch_bytes t.old o.now file page at bytes.now old.now) }
 {
-    let whole = patched(t.alloc(), old, at, bytes)?;
+    let whole = patched(t.turn().alloc(), old, at, bytes)?;
     let note = Note::Patched {
         file,
         page,
@@ -142,7 +139,7 @@ fn patch_bytes(
 /// The page's bytes are cached, or are fetched.
 #[tactic(auto, unfolding(st_rules::specs::ClientPasses::patch, st_rules::specs::ClientPasses::patch_at))]
 pub fn patch(
-    t: &mut Turn,
+    t: &mut SessionTurn,
     now: Stamp,
     o: &Operation,
     file: FileId,
@@ -150,13 +147,12 @@ pub fn patch(
     at: u16,
     bytes: &PatchBytes,
 ) -> Result<bool, AllocError>
-    requires session { has_session t.old ≡ true }
     requires serving { is_serving_at t.old now ≡ true }
     requires range { at + length bytes.now ≤ 4096 }
     ensures left { OnOk result (t.new.operations ≡ t.old.operations) }
     ensures stays { IfOk result (λ stays. put_back o.now stays t.new ≡ passes.patch t.old (session_of t.old) o.now file page at bytes.now) }
 {
-    if may_write(t, t.session(), file, page) {
+    if may_write(t.turn(), t.session(), file, page) {
         match t.base(now, file.ino, page)? {
             None => fetch(t, now, o, file, page),
             Some(old) => patch_bytes(t, now, o, file, page, at, bytes, &old),

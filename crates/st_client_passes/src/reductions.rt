@@ -39,7 +39,8 @@ fn reduce_by(t: &mut SessionTurn, ino: u32) -> Result<(), AllocError>
     }
 }
 
-fn may_reduce(t: &Turn, session: &Session, ino: u32) -> bool
+/// Whether the file has no dirty page and no outstanding command, and isn't busy.
+pub fn may_reduce(t: &Turn, session: &Session, ino: u32) -> bool
     ensures { result ≡ passes.may_reduce t.now session.now.session ino }
 {
     t.is_idle(ino) && !is_busy(t.operations(), t.server(), session, ino)

@@ -1,5 +1,5 @@
 // Requests to a server: the outstanding one again, or a new one.
-ghost use Rattle.std.specs.Prelude.{◌≡◌, false, true, IfOk, OnOk};
+ghost use Rattle.std.specs.Prelude.{◌≡◌, false, true, OnOk};
 ghost use Rattle.st_client_association.specs.Turns.{session_of};
 ghost use Rattle.st_rules.specs.ClientLease as leases;
 ghost use Rattle.st_rules.specs.ClientPasses as passes;
@@ -9,7 +9,7 @@ ghost use Rattle.st_client_passes.specs.Requests.{asking_at, is_free, marked_if}
 use crate::next_request::first_asking;
 use crate::wants::Wanted;
 use st_base::{LockRows, PageNo, Stamp};
-use st_client_association::{SessionTurn, Turn};
+use st_client_association::SessionTurn;
 use st_messages::Body;
 use st_rules::Phase;
 use std::alloc::AllocError;
@@ -150,13 +150,12 @@ fn requests_at(t: &mut SessionTurn, now: Stamp, tick: bool) -> Result<(), AllocE
 }
 
 /// Requests, under a lease that is not condemned. With a session the client doesn't greet.
-pub fn requests(mut t: SessionTurn, now: Stamp, tick: bool) -> Result<Turn, AllocError>
-    ensures { IfOk result (λ u. u ≡ passes.requests now tick (passes.greeting now tick t)) }
+pub fn requests(t: &mut SessionTurn, now: Stamp, tick: bool) -> Result<(), AllocError>
+    ensures { OnOk result (t.new ≡ passes.requests now tick (passes.greeting now tick t.old)) }
 {
     if t.session().is_condemned() {
-        Ok(t.into_turn())
+        Ok(())
     } else {
-        requests_at(&mut t, now, tick)?;
-        Ok(t.into_turn())
+        requests_at(t, now, tick)
     }
 }

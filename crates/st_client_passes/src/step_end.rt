@@ -1,5 +1,5 @@
 // All that a client does at a server at the end of a step.
-ghost use Rattle.std.specs.Prelude.{◌≡◌, true, IfOk};
+ghost use Rattle.std.specs.Prelude.{◌≡◌, true, IfOk, OnOk};
 ghost use Rattle.st_rules.specs.ClientInvariants.{lasts_here};
 ghost use Rattle.st_rules.specs.ClientPasses as passes;
 
@@ -12,39 +12,34 @@ use st_base::Stamp;
 use st_client_association::{SessionTurn, Turn};
 use std::alloc::AllocError;
 
-/// Reductions, writes and requests.
-fn with_session(mut t: SessionTurn, now: Stamp, tick: bool) -> Result<Turn, AllocError>
-    requires lasting { lasts_here t.config now t.here ≡ true }
-    ensures { IfOk result (λ u. u ≡ passes.requests now tick (passes.greeting now tick (passes.writes now tick (passes.reductions t)))) }
+/// With a session: operations, reductions, writes and requests.
+#[tactic(auto, unfolding(st_rules::specs::ClientPasses::passes))]
+fn with_session(t: &mut SessionTurn, now: Stamp, tick: bool) -> Result<(), AllocError>
+    requires { lasts_here t.old.config now t.old.here ≡ true }
+    ensures { OnOk result (t.new ≡ passes.passes now tick t.old) }
 {
-    reductions(&mut t)?;
-    writes(&mut t, now, tick)?;
+    operations(t, now)?;
+    reductions(t)?;
+    writes(t, now, tick)?;
     requests(t, now, tick)
 }
 
-/// What follows the operations: with a session reductions, writes and requests, and without one
-/// greeting.
-fn after_operations(t: Turn, now: Stamp, tick: bool) -> Result<Turn, AllocError>
+/// What is done at a server at the end of a step: with a session operations, reductions, writes
+/// and requests; without one the syncs of hard files are answered, and the client greets. `tick`
+/// says whether the input of the step was one. The lease at the server is not over.
+pub fn passes(t: Turn, now: Stamp, tick: bool) -> Result<Turn, AllocError>
     requires lasting { lasts_here t.config now t.here ≡ true }
-    ensures { IfOk result (λ u. u ≡ passes.requests now tick (passes.greeting now tick (passes.writes now tick (passes.reductions t)))) }
+    ensures { IfOk result (λ u. u ≡ passes.passes now tick t) }
 {
     match t.into_session() {
-        Ok(t) => with_session(t, now, tick),
+        Ok(mut t) => {
+            with_session(&mut t, now, tick)?;
+            Ok(t.into_turn())
+        }
         Err(mut t) => {
+            t.answer_hard_syncs()?;
             greet(&mut t, now, tick)?;
             Ok(t)
         }
     }
-}
-
-/// What is done at a server at the end of a step: operations, reductions, writes, greeting,
-/// requests. `tick` says whether the input of the step was one. The lease at the server is not
-/// over.
-#[tactic(auto, unfolding(st_rules::specs::ClientPasses::passes))]
-pub fn passes(mut t: Turn, now: Stamp, tick: bool) -> Result<Turn, AllocError>
-    requires lasting { lasts_here t.config now t.here ≡ true }
-    ensures { IfOk result (λ u. u ≡ passes.passes now tick t) }
-{
-    operations(&mut t, now)?;
-    after_operations(t, now, tick)
 }

@@ -46,7 +46,7 @@ fn is_cut_wanted(t: &Turn, session: &Session, ino: u32) -> bool
 
 /// Whether the file is demanded, has a pending sync, or has a pending unsent cut or remove and an
 /// exclusive lock.
-fn is_wanted(t: &Turn, session: &Session, ino: u32) -> bool
+pub fn is_wanted(t: &Turn, session: &Session, ino: u32) -> bool
     ensures { result ≡ passes.is_wanted t.now session.now.session ino }
 {
     let sync = SyncOn {

@@ -1,3 +1,4 @@
 pub mod Replied
 pub mod Commands
 pub mod Lost
+pub mod BySession

@@ -1,12 +1,12 @@
 -- Replies and demands: what the steps of the code leave is what the definitions say.
 use Rattle.st_lemmas.proofs.Words
 use Words.{◌≡◌, ℕ, Bool, true, false, refl, sym, ap, ◌∙◌, Option, Some, None, is_some, option_map, unwrap_or, if◌then◌else◌, nat_le, GrantNo, Stamp, Mode, Body}
-use Words.{Header, Asked, HeldLock, Request}
+use Words.{AppAnswer, Header, Asked, HeldLock, NameReply, Request, ServerId}
 use Words.ClientLease.{condemned, is_renewal, renewed}
 use Words.ClientLocks as locks
 use Words.ClientLocks.{LockCache}
 use Words.ClientReplies as replies
-use Words.ClientState.{ClientSession, Turn, file_asked, with_cache, with_lease, with_session, without_request}
+use Words.ClientState.{ClientSession, Turn, answer_each, file_asked, is_asked, with_cache, with_lease, with_session, without_request}
 use Rattle.st_requests.specs.ServerRequests.{body_of}
 use Rattle.st_rules.specs.declared.client.Asked.TheVariants.{Reduce, NotHeld, Stale}
 use Rattle.st_client_association.specs.Turns.{has_session, session_of}
@@ -133,3 +133,10 @@ counts_not t now h reply e = by (session_of t).requests.asked e
     by : (o : Option Request) → counts h.number reply o ≡ false → t ≡ replies.counted t (session_of t) now h.number (record { 0 = h.stamp }) reply o
     by None e = refl
     by (Some q) e = ap (λ b. if b then replies.count_reply t (session_of t) now (record { 0 = h.stamp }) reply q.body else t) (sym e)
+
+-- a reply to an ask for a name: the operation that waits for it is answered first
+pub named_is : (t new : Turn) (file : Option ℕ) (reply : NameReply) (server : ServerId) (a : AppAnswer) → new ≡ answer_each (is_asked server) a t → server ≡ t.here.server →
+    a ≡ replies.name_answer reply → replies.named_as new (session_of new) file reply ≡ replies.named t (session_of t) file reply
+unfolding replies.named answer_each
+named_is t new file reply server a n e k =
+    (λ i. replies.named_as (n i) (session_of (n i)) file reply) ∙ (λ i. replies.named_as (answer_each (is_asked (e i)) (k i) t) (session_of t) file reply)

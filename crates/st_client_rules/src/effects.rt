@@ -1,11 +1,11 @@
 // What a counting reply does, besides renewing the lease.
-ghost use Rattle.std.specs.Prelude.{◌≡◌, true, IfOk, OnOk};
-ghost use Rattle.st_client_association.specs.Turns.{has_session, session_of};
+ghost use Rattle.std.specs.Prelude.{◌≡◌, IfOk, OnOk};
+ghost use Rattle.st_client_association.specs.Turns.{session_of};
 ghost use Rattle.st_rules.specs.ClientReplies as replies;
 
 use crate::refusals::refused;
 use st_base::{ExtentRow, GrantNo, Mode, Stamp};
-use st_client_association::Turn;
+use st_client_association::SessionTurn;
 use st_client_session::Session;
 use st_messages::{AppAnswer, Body, NameReply};
 use st_operations::RequestingOperation;
@@ -14,8 +14,7 @@ use std::alloc::AllocError;
 
 /// A grant; the wait for the file is forgotten.
 #[tactic(auto, unfolding(st_rules::specs::ClientReplies::granted))]
-pub fn granted(turn: &mut Turn, ino: u32, g: GrantNo, mode: Mode) -> Result<(), AllocError>
-    requires { has_session turn.old ≡ true }
+pub fn granted(turn: &mut SessionTurn, ino: u32, g: GrantNo, mode: Mode) -> Result<(), AllocError>
     ensures { OnOk result (turn.new ≡ replies.granted turn.old (session_of turn.old) ino g mode) }
 {
     turn.forget_wait(ino);
@@ -24,7 +23,12 @@ pub fn granted(turn: &mut Turn, ino: u32, g: GrantNo, mode: Mode) -> Result<(), 
 
 /// A map that found no rows makes its page known as unmapped.
 #[tactic(auto, unfolding(st_rules::specs::ClientReplies::learn))]
-fn learn(turn: &mut Turn, ino: u32, rows: &[ExtentRow], asked: &Body) -> Result<(), AllocError>
+fn learn(
+    turn: &mut SessionTurn,
+    ino: u32,
+    rows: &[ExtentRow],
+    asked: &Body,
+) -> Result<(), AllocError>
     ensures { OnOk result (turn.new ≡ replies.learn turn.old ino rows.now asked.now) }
 {
     match asked {
@@ -60,8 +64,12 @@ fn is_current(session: &Session, asked: &Body) -> bool
 }
 
 #[tactic(auto, unfolding(st_rules::specs::ClientReplies::extents))]
-fn extents(turn: &mut Turn, ino: u32, rows: &[ExtentRow], asked: &Body) -> Result<(), AllocError>
-    requires { has_session turn.old ≡ true }
+fn extents(
+    turn: &mut SessionTurn,
+    ino: u32,
+    rows: &[ExtentRow],
+    asked: &Body,
+) -> Result<(), AllocError>
     ensures { OnOk result (turn.new ≡ replies.extents turn.old (session_of turn.old) ino rows.now asked.now) }
 {
     if is_current(turn.session(), asked) {
@@ -82,8 +90,7 @@ fn name_answer(reply: &NameReply) -> Result<AppAnswer, AllocError>
 }
 
 #[tactic(auto, unfolding(st_rules::specs::ClientReplies::drop_lock))]
-fn drop_lock(turn: &mut Turn, ino: u32, lock: HeldLock) -> Result<(), AllocError>
-    requires { has_session turn.old ≡ true }
+fn drop_lock(turn: &mut SessionTurn, ino: u32, lock: HeldLock) -> Result<(), AllocError>
     ensures { OnOk result (turn.new ≡ replies.drop_lock turn.old (session_of turn.old) ino lock) }
 {
     turn.drop_lock(ino);
@@ -92,8 +99,7 @@ fn drop_lock(turn: &mut Turn, ino: u32, lock: HeldLock) -> Result<(), AllocError
 
 /// The file that was removed, if one was: its lock is dropped.
 #[tactic(auto, unfolding(st_rules::specs::ClientReplies::removed, st_rules::specs::ClientReplies::drop_held))]
-fn removed(turn: &mut Turn, file: Option<u32>) -> Result<(), AllocError>
-    requires { has_session turn.old ≡ true }
+fn removed(turn: &mut SessionTurn, file: Option<u32>) -> Result<(), AllocError>
     ensures { OnOk result (turn.new ≡ replies.removed turn.old (session_of turn.old) file) }
 {
     match file {
@@ -107,8 +113,7 @@ fn removed(turn: &mut Turn, file: Option<u32>) -> Result<(), AllocError>
 
 // The prover needs this step by itself: `named` answers operations before it.
 #[tactic(auto, unfolding(st_rules::specs::ClientReplies::named_as))]
-fn named_as(turn: &mut Turn, file: Option<u32>, reply: &NameReply) -> Result<(), AllocError>
-    requires { has_session turn.old ≡ true }
+fn named_as(turn: &mut SessionTurn, file: Option<u32>, reply: &NameReply) -> Result<(), AllocError>
     ensures { OnOk result (turn.new ≡ replies.named_as turn.old (session_of turn.old) file reply.now) }
 {
     match reply {
@@ -118,11 +123,10 @@ fn named_as(turn: &mut Turn, file: Option<u32>, reply: &NameReply) -> Result<(),
 }
 
 #[tactic(auto, unfolding(st_rules::specs::ClientReplies::named, st_rules::specs::ClientState::answer_each))]
-fn named(turn: &mut Turn, file: Option<u32>, reply: &NameReply) -> Result<(), AllocError>
-    requires { has_session turn.old ≡ true }
+fn named(turn: &mut SessionTurn, file: Option<u32>, reply: &NameReply) -> Result<(), AllocError>
     ensures { OnOk result (turn.new ≡ replies.named turn.old (session_of turn.old) file reply.now) }
 {
-    let server = turn.server();
+    let server = turn.turn().server();
     let answer = name_answer(reply)?;
     turn.answer_each(&RequestingOperation { server }, &answer)?;
     named_as(turn, file, reply)
@@ -131,13 +135,12 @@ fn named(turn: &mut Turn, file: Option<u32>, reply: &NameReply) -> Result<(), Al
 /// The effect of a reply, with the body of the request that it ends and its file.
 #[tactic(auto, unfolding(st_rules::specs::ClientReplies::effect, st_rules::specs::ClientReplies::queued, st_rules::specs::ClientReplies::acknowledged, st_rules::specs::ClientReplies::reasserted))]
 pub fn effect(
-    turn: &mut Turn,
+    turn: &mut SessionTurn,
     now: Stamp,
     reply: &Body,
     file: Option<u32>,
     asked: &Body,
 ) -> Result<(), AllocError>
-    requires { has_session turn.old ≡ true }
     ensures { OnOk result (turn.new ≡ replies.effect turn.old (session_of turn.old) now reply.now file asked.now) }
 {
     match reply {
@@ -146,7 +149,7 @@ pub fn effect(
         Body::Extents { ino, rows } => extents(turn, *ino, rows.as_slice(), asked),
         // The operation of a cut is answered.
         Body::Ack => {
-            let server = turn.server();
+            let server = turn.turn().server();
             turn.answer_each(&RequestingOperation { server }, &AppAnswer::Cut)
         }
         Body::Named(reply) => named(turn, file, reply),

@@ -1,10 +1,10 @@
 // Sessions that begin, and newer epochs of a server.
-ghost use Rattle.std.specs.Prelude.{◌≡◌, ◌+◌, ◌≤◌, ◌<◌, ◌^◌, true, OnOk};
-ghost use Rattle.st_client_association.specs.Turns.{has_session, session_of};
+ghost use Rattle.std.specs.Prelude.{◌≡◌, ◌+◌, ◌≤◌, ◌<◌, ◌^◌, OnOk};
+ghost use Rattle.st_client_association.specs.Turns.{session_of};
 ghost use Rattle.st_rules.specs.ClientReplies as replies;
 
 use st_base::{Epoch, Stamp};
-use st_client_association::Turn;
+use st_client_association::{SessionTurn, Turn};
 use st_client_session::Session;
 use st_messages::{AppAnswer, Body, Header, Note, Why};
 use st_operations::RequestingOperation;
@@ -12,24 +12,24 @@ use std::alloc::AllocError;
 
 /// The lease is noted with its end.
 #[tactic(auto, unfolding(st_rules::specs::ClientReplies::note_lease))]
-pub fn note_lease(turn: &mut Turn) -> Result<(), AllocError>
-    requires { has_session turn.old ≡ true }
+pub fn note_lease(turn: &mut SessionTurn) -> Result<(), AllocError>
     ensures { OnOk result (turn.new ≡ replies.note_lease (session_of turn.old).lease turn.old) }
 {
-    let server = turn.server();
+    let server = turn.turn().server();
     let end = turn.session().end();
     turn.note(Note::Leased { server, end })
 }
 
-#[tactic(auto, unfolding(st_rules::specs::ClientReplies::begin_session))]
+#[tactic(auto, unfolding(st_rules::specs::ClientReplies::begin_session, st_rules::specs::ClientReplies::note_lease))]
 fn begin_session(turn: &mut Turn, now: Stamp, epoch: Epoch, stamp: Stamp) -> Result<(), AllocError>
     requires past { stamp.0 ≤ now.0 }
     requires living { now.0 < stamp.0 + turn.old.config.lease }
     requires reading { now.0 ≤ 2 ^ 62 }
     ensures { OnOk result (turn.new ≡ replies.begin_session turn.old epoch stamp) }
 {
-    turn.begin_session(epoch, stamp, now);
-    note_lease(turn)
+    let server = turn.server();
+    let end = turn.begin_session(epoch, stamp, now);
+    turn.note(Note::Leased { server, end })
 }
 
 /// Whether the client greets, and a lease of this stamp would not be over yet.
@@ -65,11 +65,10 @@ pub fn without_session(
 }
 
 #[tactic(auto, unfolding(st_rules::specs::ClientReplies::follow_epoch))]
-fn follow_epoch(turn: &mut Turn, epoch: Epoch) -> Result<(), AllocError>
-    requires { has_session turn.old ≡ true }
+fn follow_epoch(turn: &mut SessionTurn, epoch: Epoch) -> Result<(), AllocError>
     ensures { OnOk result (turn.new ≡ replies.follow_epoch turn.old (session_of turn.old) epoch) }
 {
-    let server = turn.server();
+    let server = turn.turn().server();
     let old = turn.session().epoch();
     turn.begin_epoch(epoch);
     turn.answer_each(
@@ -87,8 +86,7 @@ fn is_newer(session: &Session, epoch: Epoch) -> bool
 
 /// A message of another epoch: only a refusal as of another epoch tells of a newer one.
 #[tactic(auto, unfolding(st_rules::specs::ClientReplies::of_other_epoch, st_rules::specs::ClientReplies::newer_epoch))]
-pub fn of_other_epoch(turn: &mut Turn, epoch: Epoch, body: &Body) -> Result<(), AllocError>
-    requires { has_session turn.old ≡ true }
+pub fn of_other_epoch(turn: &mut SessionTurn, epoch: Epoch, body: &Body) -> Result<(), AllocError>
     ensures { OnOk result (turn.new ≡ replies.of_other_epoch turn.old (session_of turn.old) epoch body.now) }
 {
     match body {

@@ -1,11 +1,11 @@
 // A lease that is over.
-ghost use Rattle.std.specs.Prelude.{◌≡◌, true, false, OnOk};
-ghost use Rattle.st_client_association.specs.Turns.{has_session, session_of};
+ghost use Rattle.std.specs.Prelude.{◌≡◌, true, IfOk, OnOk};
+ghost use Rattle.st_client_association.specs.Turns.{session_of};
 ghost use Rattle.st_client_rules.specs.Inputs.{session_in};
 ghost use Rattle.st_rules.specs.Client as client;
 
 use st_base::{Epoch, Stamp};
-use st_client_association::Turn;
+use st_client_association::{SessionTurn, Turn};
 use st_messages::{AppAnswer, Ask};
 use st_operations::{OfServer, is_sent};
 use st_rules::Operation;
@@ -48,27 +48,29 @@ fn end_operations(turn: &mut Turn, epoch: Epoch) -> Result<(), AllocError>
 
 /// A session whose lease is over.
 #[tactic(auto, using(crate::proofs::Lost::lost_is))]
-fn lose_session(turn: &mut Turn, now: Stamp) -> Result<(), AllocError>
-    requires session { has_session turn.old ≡ true }
-    requires over { client.is_over turn.old (session_of turn.old) now ≡ true }
-    ensures { OnOk result (turn.new ≡ client.lose_session turn.old (session_of turn.old)) }
+fn lose_session(turn: SessionTurn, now: Stamp) -> Result<Turn, AllocError>
+    requires { client.is_over turn (session_of turn) now ≡ true }
+    ensures { IfOk result (λ t. t ≡ client.lose_session turn (session_of turn)) }
 {
     let epoch = turn.session().epoch();
-    turn.discard(now)?;
-    end_operations(turn, epoch)
+    let mut turn = turn.discard(now)?;
+    end_operations(&mut turn, epoch)?;
+    Ok(turn)
 }
 
 /// The loss at a server: if a session's lease is over, everything that rested on it is
 /// discarded.
-#[tactic(auto, unfolding(st_rules::specs::Client::lose, st_rules::specs::Client::lose_by, st_rules::specs::Client::lose_over))]
-pub fn lose(turn: &mut Turn, now: Stamp) -> Result<(), AllocError>
-    ensures { OnOk result (turn.new ≡ client.lose now turn.old) }
+pub fn lose(turn: Turn, now: Stamp) -> Result<Turn, AllocError>
+    ensures { IfOk result (λ t. t ≡ client.lose now turn) }
 {
-    if !turn.has_session() {
-        Ok(())
-    } else if turn.session().is_over(now) {
-        lose_session(turn, now)
-    } else {
-        Ok(())
+    match turn.into_session() {
+        Ok(turn) => {
+            if turn.session().is_over(now) {
+                lose_session(turn, now)
+            } else {
+                Ok(turn.into_turn())
+            }
+        }
+        Err(turn) => Ok(turn),
     }
 }

@@ -1,6 +1,6 @@
 // Replies to the outstanding request.
 ghost use Rattle.std.specs.Prelude.{◌≡◌, ◌≤◌, ◌^◌, true, OnOk};
-ghost use Rattle.st_client_association.specs.Turns.{has_session, session_of};
+ghost use Rattle.st_client_association.specs.Turns.{session_of};
 ghost use Rattle.st_client_rules.specs.Replies.{count_reply, counts, refuses, replied};
 ghost use Rattle.st_rules.specs.ClientInvariants.{lasts_here};
 ghost use Rattle.st_rules.specs.ClientReplies as replies;
@@ -10,7 +10,7 @@ use crate::bodies::{file_asked, fits, is_refusal, reasserts};
 use crate::effects::effect;
 use crate::epochs::note_lease;
 use st_base::Stamp;
-use st_client_association::Turn;
+use st_client_association::SessionTurn;
 use st_client_session::Session;
 use st_messages::{Body, Header};
 use std::alloc::AllocError;
@@ -36,8 +36,7 @@ fn refuses(session: &Session, reply: &Body) -> bool
 }
 
 /// The lease is renewed, if the reply's stamp is later than its date, and is noted then.
-fn renew(turn: &mut Turn, now: Stamp, stamp: Stamp) -> Result<(), AllocError>
-    requires session { has_session turn.old ≡ true }
+fn renew(turn: &mut SessionTurn, now: Stamp, stamp: Stamp) -> Result<(), AllocError>
     requires lasting { lasts_here turn.old.config now turn.old.here ≡ true }
     requires past { stamp.0 ≤ now.0 }
     requires reading { now.0 ≤ 2 ^ 62 }
@@ -49,8 +48,12 @@ fn renew(turn: &mut Turn, now: Stamp, stamp: Stamp) -> Result<(), AllocError>
 }
 
 /// A counting reply ends the request, renews the lease, and has its effect.
-fn reply_to(turn: &mut Turn, now: Stamp, stamp: Stamp, reply: &Body) -> Result<(), AllocError>
-    requires session { has_session turn.old ≡ true }
+fn reply_to(
+    turn: &mut SessionTurn,
+    now: Stamp,
+    stamp: Stamp,
+    reply: &Body,
+) -> Result<(), AllocError>
     requires lasting { lasts_here turn.old.config now turn.old.here ≡ true }
     requires past { stamp.0 ≤ now.0 }
     requires reading { now.0 ≤ 2 ^ 62 }
@@ -71,8 +74,12 @@ fn reply_to(turn: &mut Turn, now: Stamp, stamp: Stamp, reply: &Body) -> Result<(
 }
 
 /// A refused reassertion condemns the lease; every other counting reply ends the request.
-fn count_reply(turn: &mut Turn, now: Stamp, stamp: Stamp, reply: &Body) -> Result<(), AllocError>
-    requires session { has_session turn.old ≡ true }
+fn count_reply(
+    turn: &mut SessionTurn,
+    now: Stamp,
+    stamp: Stamp,
+    reply: &Body,
+) -> Result<(), AllocError>
     requires lasting { lasts_here turn.old.config now turn.old.here ≡ true }
     requires past { stamp.0 ≤ now.0 }
     requires reading { now.0 ≤ 2 ^ 62 }
@@ -87,8 +94,12 @@ fn count_reply(turn: &mut Turn, now: Stamp, stamp: Stamp, reply: &Body) -> Resul
 }
 
 /// A reply of the session's epoch.
-pub fn reply_of(turn: &mut Turn, now: Stamp, h: Header, reply: &Body) -> Result<(), AllocError>
-    requires session { has_session turn.old ≡ true }
+pub fn reply_of(
+    turn: &mut SessionTurn,
+    now: Stamp,
+    h: Header,
+    reply: &Body,
+) -> Result<(), AllocError>
     requires lasting { lasts_here turn.old.config now turn.old.here ≡ true }
     requires past { h.stamp ≤ now.0 }
     requires reading { now.0 ≤ 2 ^ 62 }

@@ -10,4 +10,4 @@ returns-in_ok-renew-in-Some c =
     subst (λ (z : Turn). OnOk c.effect.result (c.effect.new.turn ≡ z))
     (reply_is c.args.turn.now c.end_request.new.self c.renew.new.turn c.args.now c.args.stamp c.args.reply.now c.in-Some.asked c.file_asked-file.result
     c.in-Some.ensures.body c.end_request.ensures.left c.in_ok-renew-in-Some.ensures
-    (c.file_asked-file.ensures ∙ ap (λ o. file_asked o c.in-Some.asked) (c.cutting-cutting.ensures ∙ ap (λ (s : ServerSession). s.session.cutting) c.session.ensures))) c.effect.ensures
+    (c.file_asked-file.ensures ∙ ap (λ o. file_asked o c.in-Some.asked) (c.cutting-cutting.ensures ∙ ap (λ (s : ServerSession). s.session.cutting) c.session.ensures.is))) c.effect.ensures

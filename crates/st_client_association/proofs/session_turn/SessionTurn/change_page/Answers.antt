@@ -4,14 +4,14 @@ use Words.ClientPages.{forget_read}
 use Rattle.st_client_session.specs.Sessions.{ServerSession}
 use Rattle.st_client_association.specs.Turns.{IsTurn}
 use Rattle.st_client_association.proofs.TurnInvariants.{below_fewer, lent, turn_written, version_written}
-use Rattle.st_client_association.proofs.turn.Turn.change_page.Goals as goal
+use Rattle.st_client_association.proofs.session_turn.SessionTurn.change_page.Goals as goal
 
-pub invariant_of-self-in-Ok : goal.invariant_of-self-in-Ok
+pub invariant_of-turn-in-Ok : goal.invariant_of-turn-in-Ok
 unfolding forget_read
-invariant_of-self-in-Ok c =
-    let x = c.self.inside in
+invariant_of-turn-in-Ok c =
+    let x = c.turn.inside in
     let h = c.deref_mut-here.result.now in
-    let k = lent x.here.value h x.next_command x.out.items c.deref_mut-here.ensures.value c.self.invariant in
+    let k = lent x.here.value h x.next_command x.out.items c.deref_mut-here.ensures.value c.turn.invariant in
     let i = subst (λ (s : Option ServerSession). IsTurn h.id h.config h.server h.life s h.store x.next_command x.out.items) c.in-Some.is k in
     let left = c.in-Ok.ensures.changed.left in
     rw (c.push_reserved.ensures.items, c.reserve.ensures.items)
