@@ -39,13 +39,6 @@ pub enum Change {
     },
 }
 
-#[tactic(auto, unfolding(crate::specs::Changes::word16))]
-fn put_word16(out: &mut Vec<u8>, number: u16) -> Result<(), AllocError>
-    ensures { OnOk result (out.new.items ≡ out.old.items ++ changes.word16 number) }
-{
-    out.extend_from_slice(&number.to_be_bytes())
-}
-
 #[tactic(auto, unfolding(crate::specs::Changes::word32))]
 pub(crate) fn put_word32(out: &mut Vec<u8>, number: u32) -> Result<(), AllocError>
     ensures { OnOk result (out.new.items ≡ out.old.items ++ changes.word32 number) }
@@ -60,31 +53,23 @@ pub(crate) fn put_byte(out: &mut Vec<u8>, byte: u8) -> Result<(), AllocError>
 }
 
 #[tactic(auto, unfolding(crate::specs::Changes::name))]
-fn put_name(out: &mut Vec<u8>, name: &Name) -> Result<(), AllocError>
-    requires { length name.now ≤ 255 }
-    ensures { OnOk result (out.new.items ≡ out.old.items ++ changes.name name.now) }
-{
-    put_byte(out, name.len() as u8)?;
-    out.extend_from_slice(name.as_slice())
-}
-
 fn put_entry(out: &mut Vec<u8>, dir: u32, name: &Name) -> Result<(), AllocError>
     requires { length name.now ≤ 255 }
     ensures { OnOk result (out.new.items ≡ out.old.items ++ changes.entry dir name.now) }
 {
     put_word32(out, dir)?;
-    put_name(out, name)?;
-    Ok(())
+    put_byte(out, name.len() as u8)?;
+    out.extend_from_slice(name.as_slice())
 }
 
+#[tactic(auto, unfolding(crate::specs::Changes::word16))]
 fn put_allocate(out: &mut Vec<u8>, ino: u32, page: PageNo, count: u16) -> Result<(), AllocError>
     ensures { OnOk result (out.new.items ≡ out.old.items ++ (2 ∷ (changes.word32 ino ++ changes.word32 page.0 ++ changes.word16 count))) }
 {
     put_byte(out, 2)?;
     put_word32(out, ino)?;
     put_word32(out, page.0)?;
-    put_word16(out, count)?;
-    Ok(())
+    out.extend_from_slice(&count.to_be_bytes())
 }
 
 fn put_cut(out: &mut Vec<u8>, ino: u32, from: PageNo) -> Result<(), AllocError>

@@ -49,12 +49,6 @@ fn within(least: u32, most: u32, number: u32) -> bool
     least <= number && number <= most
 }
 
-fn is_count(page: PageNo, count: u16) -> bool
-    ensures { result ≡ changes.is_count page.0 count }
-{
-    within(1, 64, u32::from(count)) && u64::from(page.0) + u64::from(count) <= 1_048_576
-}
-
 #[tactic(auto, unfolding(crate::specs::Decoder::ino_at))]
 fn read_ino(bytes: &[u8]) -> Option<(u32, &[u8])>
     ensures { option_map (λ x. (x.0, x.1.now)) result ≡ reading.ino_at bytes.now }
@@ -82,19 +76,12 @@ fn read_count(page: PageNo, bytes: &[u8]) -> Option<(u16, &[u8])>
     ensures { option_map (λ x. (x.0, x.1.now)) result ≡ reading.count_at page bytes.now }
 {
     let (count, rest) = read_word16(bytes)?;
-    if !is_count(page, count) {
+    let is_count = within(1, 64, u32::from(count))
+        && u64::from(page.0) + u64::from(count) <= 1_048_576;
+    if !is_count {
         return None;
     }
     Some((count, rest))
-}
-
-fn read_text(len: usize, bytes: &[u8]) -> Option<(&[u8], &[u8])>
-    ensures { option_map (λ x. (x.0.now, x.1.now)) result ≡ reading.text_at len bytes.now }
-{
-    if bytes.len() < len {
-        return None;
-    }
-    Some(bytes.split_at(len))
 }
 
 #[tactic(auto, unfolding(crate::specs::Decoder::name_at))]
@@ -102,7 +89,11 @@ fn read_name(bytes: &[u8]) -> Option<(&[u8], &[u8])>
     ensures { option_map (λ x. (x.0.now, x.1.now)) result ≡ reading.name_at bytes.now }
 {
     let (len, rest) = read_byte(bytes)?;
-    read_text(usize::from(len), rest)
+    let len = usize::from(len);
+    if rest.len() < len {
+        return None;
+    }
+    Some(rest.split_at(len))
 }
 
 /// A directory and a name in it.
@@ -134,39 +125,6 @@ fn read_cut(bytes: &[u8]) -> Option<(Change, &[u8])>
     Some((Change::Cut { ino, from }, rest))
 }
 
-#[tactic(auto, unfolding(crate::specs::Decoder::named_at))]
-fn read_create(alloc: Global, bytes: &[u8]) -> Result<Option<(Change, &[u8])>, AllocError>
-    ensures { IfOk result (λ o. option_map (λ x. (x.0, x.1.now)) o ≡ reading.named_at kinds.Create bytes.now) }
-{
-    let Some(((dir, name), rest)) = read_entry(bytes) else {
-        return Ok(None);
-    };
-    let name = Name::from_slice(alloc, name)?;
-    Ok(Some((Change::Create { dir, name }, rest)))
-}
-
-#[tactic(auto, unfolding(crate::specs::Decoder::named_at))]
-fn read_mkdir(alloc: Global, bytes: &[u8]) -> Result<Option<(Change, &[u8])>, AllocError>
-    ensures { IfOk result (λ o. option_map (λ x. (x.0, x.1.now)) o ≡ reading.named_at kinds.Mkdir bytes.now) }
-{
-    let Some(((dir, name), rest)) = read_entry(bytes) else {
-        return Ok(None);
-    };
-    let name = Name::from_slice(alloc, name)?;
-    Ok(Some((Change::Mkdir { dir, name }, rest)))
-}
-
-#[tactic(auto, unfolding(crate::specs::Decoder::named_at))]
-fn read_remove(alloc: Global, bytes: &[u8]) -> Result<Option<(Change, &[u8])>, AllocError>
-    ensures { IfOk result (λ o. option_map (λ x. (x.0, x.1.now)) o ≡ reading.named_at kinds.Remove bytes.now) }
-{
-    let Some(((dir, name), rest)) = read_entry(bytes) else {
-        return Ok(None);
-    };
-    let name = Name::from_slice(alloc, name)?;
-    Ok(Some((Change::Remove { dir, name }, rest)))
-}
-
 #[tactic(auto, unfolding(crate::specs::Decoder::rename_at))]
 fn read_rename(alloc: Global, bytes: &[u8]) -> Result<Option<(Change, &[u8])>, AllocError>
     ensures { IfOk result (λ o. option_map (λ x. (x.0, x.1.now)) o ≡ reading.rename_at bytes.now) }
@@ -187,7 +145,7 @@ fn read_rename(alloc: Global, bytes: &[u8]) -> Result<Option<(Change, &[u8])>, A
 }
 
 /// What follows the byte of a kind.
-#[tactic(auto, unfolding(crate::specs::Decoder::change_numbered))]
+#[tactic(auto, unfolding(crate::specs::Decoder::change_numbered, crate::specs::Decoder::named_at))]
 fn read_numbered(
     alloc: Global,
     kind: u8,
@@ -199,29 +157,40 @@ fn read_numbered(
         1 => Ok(Some((Change::Epoch, bytes))),
         2 => Ok(read_allocate(bytes)),
         3 => Ok(read_cut(bytes)),
-        4 => read_create(alloc, bytes),
-        5 => read_mkdir(alloc, bytes),
-        6 => read_remove(alloc, bytes),
+        4 => {
+            let Some(((dir, name), rest)) = read_entry(bytes) else {
+                return Ok(None);
+            };
+            let name = Name::from_slice(alloc, name)?;
+            Ok(Some((Change::Create { dir, name }, rest)))
+        }
+        5 => {
+            let Some(((dir, name), rest)) = read_entry(bytes) else {
+                return Ok(None);
+            };
+            let name = Name::from_slice(alloc, name)?;
+            Ok(Some((Change::Mkdir { dir, name }, rest)))
+        }
+        6 => {
+            let Some(((dir, name), rest)) = read_entry(bytes) else {
+                return Ok(None);
+            };
+            let name = Name::from_slice(alloc, name)?;
+            Ok(Some((Change::Remove { dir, name }, rest)))
+        }
         7 => read_rename(alloc, bytes),
         _ => Ok(None),
     }
 }
 
-#[tactic(auto, unfolding(crate::specs::Decoder::change_at))]
-fn read_change(alloc: Global, bytes: &[u8]) -> Result<Option<(Change, &[u8])>, AllocError>
-    ensures { IfOk result (λ o. option_map (λ x. (x.0, x.1.now)) o ≡ reading.change_at bytes.now) }
+#[tactic(auto, unfolding(crate::specs::Decoder::change_of, crate::specs::Decoder::change_at))]
+fn read_whole(alloc: Global, bytes: &[u8]) -> Result<Option<Change>, AllocError>
+    ensures { IfOk result (λ o. o ≡ reading.change_of bytes.now) }
 {
     let Some((kind, rest)) = read_byte(bytes) else {
         return Ok(None);
     };
-    read_numbered(alloc, kind, rest)
-}
-
-#[tactic(auto, unfolding(crate::specs::Decoder::change_of))]
-fn read_whole(alloc: Global, bytes: &[u8]) -> Result<Option<Change>, AllocError>
-    ensures { IfOk result (λ o. o ≡ reading.change_of bytes.now) }
-{
-    match read_change(alloc, bytes)? {
+    match read_numbered(alloc, kind, rest)? {
         None => Ok(None),
         Some((change, rest)) => {
             if rest.is_empty() {

@@ -47,15 +47,6 @@ fn refused(refusal: NameRefusal) -> ChangeRefusal
     }
 }
 
-fn unmapped(refusal: ExtentRefusal) -> ChangeRefusal
-    ensures { result ≡ parts.unmapped refusal }
-{
-    match refusal {
-        ExtentRefusal::NoSpace { free, asked } => ChangeRefusal::NoSpace { free, asked },
-        ExtentRefusal::Memory => ChangeRefusal::Memory,
-    }
-}
-
 /// What a check of names told, as a check of a change tells it.
 fn checked(told: Result<u32, NameRefusal>) -> Result<(), ChangeRefusal>
     ensures { result ≡ parts.names_checked told }
@@ -123,20 +114,11 @@ impl Stable {
         let file = self.file(ino);
         match self.extents.allocate(file, page, u32::from(count)) {
             Ok(()) => Ok(()),
-            Err(refusal) => Err(unmapped(refusal)),
+            Err(ExtentRefusal::NoSpace { free, asked }) => {
+                Err(ChangeRefusal::NoSpace { free, asked })
+            }
+            Err(ExtentRefusal::Memory) => Err(ChangeRefusal::Memory),
         }
-    }
-
-    #[tactic(auto, unfolding(crate::specs::Stable::cut))]
-    fn cut(&mut self, ino: u32, from: PageNo) -> Result<(), ChangeRefusal>
-        ensures { parts.Applies (parts.stable_of self.old) (parts.stable_of self.new) result (stable.cut (parts.stable_of self.old) ino from) }
-    {
-        if !self.names.is_file(ino) {
-            return Err(ChangeRefusal::NoFile(ino));
-        }
-        let file = self.file(ino);
-        self.extents.release_from(file, from);
-        Ok(())
     }
 
     #[tactic(auto, unfolding(crate::specs::Stable::named))]
@@ -214,18 +196,11 @@ impl Stable {
         }
     }
 
-    fn begin_epoch(&mut self)
-        requires { self.old.epoch.0 < 2 ^ 64 - 1 }
-        ensures { parts.stable_of self.new ≡ stable.next_epoch (parts.stable_of self.old) }
-    {
-        self.epoch = Epoch(self.epoch.0 + 1);
-    }
-
     /// Applies a change, whose numbers are in their ranges: an inode from 1, pages up to 1,048,575,
     /// and 1 to 64 of them. The counter that it raises is not at its end. Removing a file releases
     /// its extents. A refusal but `Memory` changes nothing; after `Memory` nothing is promised but
     /// that the value can be dropped.
-    #[tactic(auto, unfolding(crate::specs::Stable::apply, crate::specs::Changes::is_ranged))]
+    #[tactic(auto, unfolding(crate::specs::Stable::apply, crate::specs::Stable::cut, crate::specs::Changes::is_ranged))]
     pub fn apply(&mut self, change: &Change) -> Result<(), ChangeRefusal>
         requires ranges { is_ranged change.now ≡ true }
         requires room { stable.HasRoom (parts.stable_of self.old) change.now }
@@ -233,11 +208,18 @@ impl Stable {
     {
         match change {
             Change::Epoch => {
-                self.begin_epoch();
+                self.epoch = Epoch(self.epoch.0 + 1);
                 Ok(())
             }
             Change::Allocate { ino, page, count } => self.allocate(*ino, *page, *count),
-            Change::Cut { ino, from } => self.cut(*ino, *from),
+            Change::Cut { ino, from } => {
+                if !self.names.is_file(*ino) {
+                    return Err(ChangeRefusal::NoFile(*ino));
+                }
+                let file = self.file(*ino);
+                self.extents.release_from(file, *from);
+                Ok(())
+            }
             Change::Create { dir, name } => self.create(*dir, name),
             Change::Mkdir { dir, name } => self.mkdir(*dir, name),
             Change::Remove { dir, name } => self.remove(*dir, name),
@@ -265,16 +247,6 @@ impl Stable {
                 free: u64::from(free),
                 asked: u64::from(asked),
             });
-        }
-        Ok(())
-    }
-
-    #[tactic(auto, unfolding(crate::specs::Stable::cut))]
-    fn check_cut(&self, ino: u32) -> Result<(), ChangeRefusal>
-        ensures { (from : PageNo) → result ≡ parts.checked (stable.cut (parts.stable_of self.now) ino from) }
-    {
-        if !self.names.is_file(ino) {
-            return Err(ChangeRefusal::NoFile(ino));
         }
         Ok(())
     }
@@ -309,7 +281,7 @@ impl Stable {
 
     /// Whether `apply` would refuse a change if memory lasted, and why. It takes no memory. The
     /// numbers of the change are in their ranges.
-    #[tactic(auto, unfolding(crate::specs::Stable::apply, crate::specs::Changes::is_ranged))]
+    #[tactic(auto, unfolding(crate::specs::Stable::apply, crate::specs::Stable::cut, crate::specs::Changes::is_ranged))]
     pub fn check(&self, change: &Change) -> Result<(), ChangeRefusal>
         requires { is_ranged change.now ≡ true }
         ensures { result ≡ parts.checked (stable.apply (parts.stable_of self.now) change.now) }
@@ -317,7 +289,12 @@ impl Stable {
         match change {
             Change::Epoch => Ok(()),
             Change::Allocate { ino, page, count } => self.check_allocate(*ino, *page, *count),
-            Change::Cut { ino, .. } => self.check_cut(*ino),
+            Change::Cut { ino, .. } => {
+                if !self.names.is_file(*ino) {
+                    return Err(ChangeRefusal::NoFile(*ino));
+                }
+                Ok(())
+            }
             Change::Create { dir, name } => self.check_entry(*dir, name),
             Change::Mkdir { dir, name } => self.check_entry(*dir, name),
             Change::Remove { dir, name } => self.check_remove(*dir, name),

@@ -2,7 +2,7 @@
 use Rattle.std.proofs.Common.{◌≡◌, ◌≢◌, ℕ, ◌^◌, ◌<◌, List, ◌++◌, length, Some, None, refl, sym, ap, ◌∙◌, subst, append_assoc, arith}
 use Rattle.st_base.specs.declared.config.Config.{Config}
 use Rattle.st_journal_file.specs.Layout.{part, word32}
-use Rattle.st_journal_bytes.specs.Headers.{MAGIC, VERSION, HasVersion, HeaderFits, IsHeaded, ages, body, bounds, header, identity, settings}
+use Rattle.st_journal_bytes.specs.Headers.{MAGIC, VERSION, HasVersion, HeaderFits, IsHeaded, body, header, identity, settings}
 use Rattle.st_journal_bytes.specs.Plain.{plain}
 use Rattle.st_journal_bytes.specs.Reading.{after_front, word32_at}
 use Rattle.st_journal_bytes.specs.Words.{word16, word64}
@@ -12,12 +12,16 @@ use Rattle.st_journal_bytes.proofs.Parts.{front_reads, front_rest, front_takes, 
 use Rattle.st_journal_bytes.proofs.Scans.{length-part, part_once}
 
 -- over plain bytes
-regroup : (o a b c d r : List ℕ) → (o ++ (a ++ (b ++ (c ++ d)))) ++ r ≡ o ++ (a ++ (b ++ (c ++ (d ++ r))))
-regroup o a b c d r = simp append_assoc
+regroup : (o a b c d e f g h i : List ℕ) →
+    ((((((((o ++ a) ++ b) ++ c) ++ d) ++ e) ++ f) ++ g) ++ h) ++ i ≡ o ++ (a ++ (b ++ (c ++ (d ++ (e ++ (f ++ (g ++ (h ++ i))))))))
+regroup o a b c d e f g h i = simp append_assoc
 
-pub ages_first : (old : List ℕ) (c : Config) → (old ++ ages c) ++ bounds c ≡ old ++ settings c
+-- the settings, one after another
+pub settings_in_turn : (o : List ℕ) (c : Config) →
+    ((((((((o ++ word64 c.lease) ++ word64 c.renew) ++ word64 c.quiesce) ++ word64 c.flush) ++ word64 c.demand) ++ word64 c.retry) ++ word64 c.num) ++ word64 c.den) ++ word64 c.grain ≡ o ++ settings c
 unfolding settings
-ages_first old c = regroup old (word64 c.lease) (word64 c.renew) (word64 c.quiesce) (word64 c.flush) (bounds c)
+settings_in_turn o c =
+    regroup o (word64 c.lease) (word64 c.renew) (word64 c.quiesce) (word64 c.flush) (word64 c.demand) (word64 c.retry) (word64 c.num) (word64 c.den) (word64 c.grain)
 
 pub length-body : (h : Header) → length (body h) ≡ 86
 unfolding body identity settings word16 word32 word64

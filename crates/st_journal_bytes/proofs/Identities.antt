@@ -1,11 +1,11 @@
 -- The bytes of a header are those of one header.
-use Rattle.std.proofs.Common.{◌≡◌, ℕ, ◌^◌, ◌<◌, List, [], ◌++◌, length, refl, sym, ap, ◌∙◌, append-nil, append_assoc, arith}
+use Rattle.std.proofs.Common.{◌≡◌, ℕ, ◌^◌, ◌<◌, List, [], ◌++◌, refl, sym, ◌∙◌, append-nil, arith}
 use Rattle.std.proofs.lemmas.List.{append_cancel_left}
 use Rattle.st_base.specs.declared.config.Config.{Config}
 use Rattle.st_journal_file.specs.Layout.{part, word32}
-use Rattle.st_journal_bytes.specs.Headers.{MAGIC, VERSION, HeaderFits, IdentityFits, SettingsFit, body, bounds, header, identity, settings}
+use Rattle.st_journal_bytes.specs.Headers.{MAGIC, VERSION, HeaderFits, IdentityFits, SettingsFit, body, header, identity, settings}
 use Rattle.st_journal_bytes.specs.Plain.{plain}
-use Rattle.st_journal_bytes.specs.Words.{word16, word64}
+use Rattle.st_journal_bytes.specs.Words.{word64}
 use Rattle.st_journal_bytes.specs.declared.header.Header.{Header}
 use Rattle.st_journal_bytes.specs.declared.header.Identity.{Identity}
 use Rattle.st_journal_bytes.proofs.Headers.{header_is, length-body}

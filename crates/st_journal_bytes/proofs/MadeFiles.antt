@@ -1,11 +1,9 @@
 -- A file that was made is read as what it is.
-use Rattle.std.proofs.Common.{◌≡◌, ◌≢◌, ℕ, ◌+◌, ◌*◌, ◌^◌, ◌<◌, ◌≤◌, Bool, true, false, List, [], ◌∷◌, ◌++◌, length, get_or, Option, Some, None, Result, Ok, Err, inl, inr, refl, sym, ap, ◌∙◌, subst, append_assoc, arith}
-use Rattle.std.specs.Prelude.{IfErr, IfNone, IfOk, IfSome}
+use Rattle.std.proofs.Common.{◌≡◌, ◌≢◌, ℕ, ◌+◌, ◌*◌, ◌≤◌, Bool, true, false, List, ◌∷◌, ◌++◌, length, get_or, inl, inr, refl, sym, ap, ◌∙◌, append_assoc, arith}
 use Rattle.std.proofs.lemmas.List.{append_cancel_left, get_or-append_right, length-append}
-use Rattle.st_base.specs.declared.config.Config.{Config}
 use Rattle.st_journal_file.specs.Layout.{CLOSED, OPEN, part, switch_of, word32}
-use Rattle.st_journal_bytes.specs.Files.{HasNoMark, IsMadeFile, IsRefused, IsShort, IsUnmade}
-use Rattle.st_journal_bytes.specs.Headers.{MAGIC, VERSION, HasVersion, IsHeaded, IsNoHeader, IsOther, body, header}
+use Rattle.st_journal_bytes.specs.Files.{HasNoMark, IsMadeFile, IsRefused, IsShort}
+use Rattle.st_journal_bytes.specs.Headers.{MAGIC, VERSION, IsHeaded, IsNoHeader, IsOther, body, header}
 use Rattle.st_journal_bytes.specs.Plain.{plain}
 use Rattle.st_journal_bytes.specs.declared.file.Current.{Current}
 use Rattle.st_journal_bytes.specs.declared.file.FileFault.{FileFault}
@@ -91,7 +89,7 @@ not_unmarked : (bytes : List ℕ) (wanted : Identity) (c : Current) (at : ℕ) �
 not_unmarked bytes wanted c at m (inl h) = h.1 (ap (λ n. get_or bytes n 0) h.0 ∙ made_mark bytes wanted c m)
 not_unmarked bytes wanted c at m (inr h) = no_mark c.second (get_or bytes at 0) (ap (λ n. get_or bytes n 0) h.0 ∙ made_switch bytes wanted c m) h.1.0 h.1.1
 
-not_refused : (bytes : List ℕ) (wanted : Identity) (c : Current) (f : FileFault) → IsMadeFile bytes wanted c → IsRefused bytes wanted f → ⊥
+pub not_refused : (bytes : List ℕ) (wanted : Identity) (c : Current) (f : FileFault) → IsMadeFile bytes wanted c → IsRefused bytes wanted f → ⊥
 not_refused bytes wanted c Short m r = not_short bytes wanted c m r
 not_refused bytes wanted c (BadHeader f) m (inl n) = has_header bytes c.header f (made_headed bytes wanted c m) n
 not_refused bytes wanted c (BadHeader f) m (inr o) =
@@ -104,15 +102,8 @@ one_switch true true e = refl
 one_switch false true e = let n : 0 ≡ 255 = e in absurd (omega (arith, n))
 one_switch true false e = let n : 255 ≡ 0 = e in absurd (omega (arith, n))
 
-one_file : (bytes : List ℕ) (wanted : Identity) (c d : Current) → IsMadeFile bytes wanted c → IsMadeFile bytes wanted d → c ≡ d
+pub one_file : (bytes : List ℕ) (wanted : Identity) (c d : Current) → IsMadeFile bytes wanted c → IsMadeFile bytes wanted d → c ≡ d
 one_file bytes wanted c d m n =
     let second : c.second ≡ d.second = one_switch c.second d.second (sym (made_switch bytes wanted c m) ∙ made_switch bytes wanted d n) in
     let same : c.header ≡ d.header = headed_once bytes c.header d.header (made_headed bytes wanted c m) (made_headed bytes wanted d n) in
     rw (second, same) refl
-
-pub made_is_opened : (bytes : List ℕ) (wanted : Identity) (r : Result (Option Current) FileFault) (c : Current) →
-    IfOk r (λ o. IfSome o (IsMadeFile bytes wanted)) → IfOk r (λ o. IfNone o (IsUnmade bytes))
-    → IfErr r (IsRefused bytes wanted) → IsMadeFile bytes wanted c → r ≡ Ok (Some c)
-made_is_opened bytes wanted (Err f) c made unmade err m = absurd (not_refused bytes wanted c f m err)
-made_is_opened bytes wanted (Ok None) c made unmade err m = let n : 0 ≡ 255 = sym unmade.mark ∙ made_mark bytes wanted c m in absurd (omega (arith, n))
-made_is_opened bytes wanted (Ok (Some d)) c made unmade err m = ap (λ (x : Current). Ok (Some x)) (one_file bytes wanted d c made m)

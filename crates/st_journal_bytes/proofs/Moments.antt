@@ -1,13 +1,12 @@
 -- The moments of an area's records.
-use Rattle.std.proofs.Common.{◌≡◌, ℕ, ◌+◌, ◌^◌, ◌<◌, ◌≤◌, Bool, true, false, cond, ltb, List, [], ◌∷◌, ◌++◌, length, take, Option, Some, None, Result, Ok, Err, refl, sym, ap, ◌∙◌, subst, append_assoc, append-nil, arith}
-use Rattle.std.specs.Prelude.{IfErr, IfOk, OnErr, map, nat_lt, option_map}
+use Rattle.std.proofs.Common.{◌≡◌, ℕ, ◌+◌, ◌^◌, ◌<◌, Bool, true, false, cond, ltb, List, [], ◌∷◌, ◌++◌, length, take, Option, Some, None, Result, Ok, Err, refl, sym, ap, ◌∙◌, append_assoc, append-nil, arith}
+use Rattle.std.specs.Prelude.{IfOk, OnErr, map, option_map}
 use Rattle.std.specs.Int.{w64, from_be_bytes}
 use Rattle.std.proofs.lemmas.Bool.{le-ltb}
 use Rattle.std.proofs.lemmas.List.{length-append, take_at}
-use Rattle.st_journal_file.specs.Layout.{CLOSED, OPEN, Format, IsArea, after_changes, all_opened, front, opened, part, word32}
+use Rattle.st_journal_file.specs.Layout.{CLOSED, OPEN, Format, IsArea, after_changes, all_opened, opened, part, word32}
 use Rattle.st_journal_file.proofs.Groups.{all_opened-append}
-use Rattle.st_journal_bytes.specs.Areas.{IsDamaged}
-use Rattle.st_journal_bytes.specs.Moments.{Dated, HasMoment, HaveMoment, after_dated, after_record, after_records, apply_dated, dated, dated_bytes, later, moment_of}
+use Rattle.st_journal_bytes.specs.Moments.{Dated, HasMoment, HaveMoment, after_dated, after_record, after_records, apply_dated, dated, dated_bytes, moment_of}
 use Rattle.st_journal_bytes.specs.Plain.{HasSum, plain}
 use Rattle.st_journal_bytes.specs.Words.{word64}
 use Rattle.st_journal_bytes.specs.declared.area.Damaged.{Damaged}

@@ -50,12 +50,21 @@ pub number_64 : (bytes : List ℕ) (n : ℕ) → length bytes ≡ 8 → IsBytes 
 unfolding word64
 number_64 bytes n len fits e = be_bytes_8 bytes n len fits e
 
+-- bytes begin with the number that is read from their front, by width
+
+pub front_16 : (bytes : List ℕ) (n : ℕ) → 2 ≤ length bytes → IsBytes bytes → n ≡ from_be_bytes w16 (take 2 bytes) → bytes ≡ word16 n ++ drop 2 bytes
+front_16 bytes n long fits e =
+    sym (take-append-drop 2 bytes)
+    ∙ ap (λ (l : List ℕ). l ++ drop 2 bytes) (sym (number_16 (take 2 bytes) n (omega (arith, length-take 2 bytes)) (IsBytes-take 2 bytes fits) e))
+
+pub front_32 : (bytes : List ℕ) (n : ℕ) → 4 ≤ length bytes → IsBytes bytes → n ≡ from_be_bytes w32 (take 4 bytes) → bytes ≡ word32 n ++ drop 4 bytes
+front_32 bytes n long fits e =
+    sym (take-append-drop 4 bytes)
+    ∙ ap (λ (l : List ℕ). l ++ drop 4 bytes) (sym (number_32 (take 4 bytes) n (omega (arith, length-take 4 bytes)) (IsBytes-take 4 bytes fits) e))
+
 -- a number of four bytes is read from the front
 pub split_32 : (bytes : List ℕ) → 4 ≤ length bytes → IsBytes bytes → bytes ≡ word32 (from_be_bytes w32 (take 4 bytes)) ++ drop 4 bytes
-split_32 bytes long fits =
-    sym (take-append-drop 4 bytes)
-    ∙ ap (λ (l : List ℕ). l ++ drop 4 bytes)
-    (sym (number_32 (take 4 bytes) (from_be_bytes w32 (take 4 bytes)) (omega (arith, length-take 4 bytes)) (IsBytes-take 4 bytes fits) refl))
+split_32 bytes long fits = front_32 bytes (from_be_bytes w32 (take 4 bytes)) long fits refl
 
 pub number_small : (bytes : List ℕ) → IsBytes bytes → from_be_bytes w32 bytes < 2 ^ 32
 number_small bytes fits = omega (arith, fits 0, fits 1, fits 2, fits 3)

@@ -17,16 +17,12 @@ MAGIC = 84 ∷ 65 ∷ 78 ∷ 75 ∷ 74 ∷ 82 ∷ 78 ∷ 76 ∷ []
 abbrev pub VERSION : ℕ
 VERSION = 1
 
--- the ages of a lease, and the other settings
-
-abbrev pub ages : Config → List ℕ
-ages c = word64 c.lease ++ (word64 c.renew ++ (word64 c.quiesce ++ word64 c.flush))
-
-abbrev pub bounds : Config → List ℕ
-bounds c = word64 c.demand ++ (word64 c.retry ++ (word64 c.num ++ (word64 c.den ++ word64 c.grain)))
-
+-- the settings: the ages of a lease first
 unfoldable pub settings : Config → List ℕ
-settings c = word64 c.lease ++ (word64 c.renew ++ (word64 c.quiesce ++ (word64 c.flush ++ bounds c)))
+settings c =
+    word64 c.lease ++
+    (word64 c.renew ++
+    (word64 c.quiesce ++ (word64 c.flush ++ (word64 c.demand ++ (word64 c.retry ++ (word64 c.num ++ (word64 c.den ++ word64 c.grain)))))))
 
 unfoldable pub identity : Identity → List ℕ
 identity i = word16 i.server.0 ++ (word16 i.servers ++ (word16 i.disks ++ (word32 i.blocks ++ settings i.settings)))

@@ -1,5 +1,5 @@
 // Areas: a snapshot, records after open gates, and a closed gate.
-ghost use Rattle.std.specs.Prelude.{◌≡◌, ◌<◌, ◌≤◌, ◌+◌, ◌^◌, ◌++◌, List, ℕ, IfErr, IfNone, IfOk, IfSome, OnErr, length};
+ghost use Rattle.std.specs.Prelude.{◌≡◌, ◌<◌, ◌+◌, ◌^◌, ◌++◌, List, ℕ, IfErr, IfNone, IfOk, IfSome, OnErr, length};
 ghost use Rattle.st_journal_bytes.specs.Areas.{HasRecords, IsClosed, IsDamaged, IsRead, IsUnread, StopsAt};
 ghost use Rattle.st_journal_bytes.specs.Plain.{plain};
 ghost use Rattle.st_journal_file.specs.Layout.{IsArea, opened};

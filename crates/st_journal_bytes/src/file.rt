@@ -1,10 +1,8 @@
 // A journal's file: its header, two marks, and two areas.
 ghost use Rattle.std.specs.Prelude.{◌≡◌, ◌≤◌, ◌<◌, ◌^◌, true, false, None, Ok, Some, IfErr, IfOk, IfSome, IfNone, length};
 ghost use Rattle.st_journal_bytes.specs.Files.{IsMadeFile, IsRefused, IsUnmade, MayBegin};
-ghost use Rattle.st_journal_bytes.specs.Headers.{IsHeaded};
 ghost use Rattle.st_journal_bytes.specs.declared.file.Current.{Current};
 ghost use Rattle.st_journal_bytes.specs.declared.header.Identity.{Identity};
-ghost use Rattle.st_journal_file.specs.Histories.{IsEither};
 ghost use Rattle.st_journal_file.specs.Layout as layout;
 
 use crate::area::{CLOSED, OPEN};
@@ -41,14 +39,6 @@ pub enum FileFault {
     Damaged { at: u64 },
 }
 
-/// Whether a byte is 0 or this one.
-fn is_zero_or(byte: u8, other: u8) -> bool
-    ensures yes { result ≡ true → IsEither 0 other byte }
-    ensures no { result ≡ false → IsEither 0 other byte → ⊥ }
-{
-    byte == 0 || byte == other
-}
-
 /// Whether the first bytes are zeros or bytes of a header, each for itself.
 fn may_begin(front: &[u8]) -> bool
     requires { 12 ≤ length front.now }
@@ -56,46 +46,21 @@ fn may_begin(front: &[u8]) -> bool
     ensures no { result ≡ false → MayBegin front.now → ⊥ }
 {
     for place in 0..12 {
-        if !is_zero_or(front[place], START[place]) {
+        if front[place] != 0 && front[place] != START[place] {
             return false;
         }
     }
     true
 }
 
-/// Whether a mark is open, if it is a mark.
-fn read_mark(mark: u8) -> Option<bool>
-    ensures some { IfSome result (λ b. mark ≡ layout.switch_of b) }
-    ensures none { IfNone result ((mark ≡ layout.CLOSED → ⊥) × (mark ≡ layout.OPEN → ⊥)) }
-{
-    if mark == CLOSED {
-        return Some(false);
-    }
-    if mark == OPEN { Some(true) } else { None }
-}
-
-/// The header of a file, which must be the journal that is wanted.
-fn read_wanted(bytes: &[u8], wanted: &Identity) -> Result<Header, FileFault>
-    ensures found { IfOk result (IsHeaded bytes.now) }
-    ensures wanted { IfOk result (λ h. h.identity ≡ wanted.now) }
-    ensures err { IfErr result (IsRefused bytes.now wanted.now) }
-{
-    let header = match read_header(bytes) {
-        Ok(header) => header,
-        Err(fault) => return Err(FileFault::BadHeader(fault)),
-    };
-    match check_identity(&header.identity, wanted) {
-        Ok(()) => Ok(header),
-        Err(fault) => Err(FileFault::BadHeader(fault)),
-    }
-}
-
-/// The header and the marks, by one check after another.
+/// Reads the header and the marks of the file of the journal that is wanted; `None` if the file was
+/// not made yet: nothing was ever kept in it.
 #[tactic(auto, using(crate::proofs::Marks::made_file))]
-fn checked_file(bytes: &[u8], wanted: &Identity) -> Result<Option<Current>, FileFault>
+pub fn read_file(bytes: &[u8], wanted: &Identity) -> Result<Option<Current>, FileFault>
     ensures made { IfOk result (λ o. IfSome o (IsMadeFile bytes.now wanted.now)) }
     ensures unmade { IfOk result (λ o. IfNone o (IsUnmade bytes.now)) }
     ensures err { IfErr result (IsRefused bytes.now wanted.now) }
+    ensures opened { (c : Current) → IsMadeFile bytes.now wanted.now c → result ≡ Ok (Some c) }
     ensures blank { IsUnmade bytes.now → result ≡ Ok None }
 {
     if bytes.len() < 112 {
@@ -105,29 +70,24 @@ fn checked_file(bytes: &[u8], wanted: &Identity) -> Result<Option<Current>, File
     if made == CLOSED && may_begin(bytes) {
         return Ok(None);
     }
-    let header = read_wanted(bytes, wanted)?;
+    let header = match read_header(bytes) {
+        Ok(header) => header,
+        Err(fault) => return Err(FileFault::BadHeader(fault)),
+    };
+    if let Err(fault) = check_identity(&header.identity, wanted) {
+        return Err(FileFault::BadHeader(fault));
+    }
     if made != OPEN {
         return Err(FileFault::Damaged { at: MADE_PLACE });
     }
     if ((bytes.len() - 112) as u64) < 2 * u64::from(header.area) {
         return Err(FileFault::Short);
     }
-    match read_mark(bytes[111]) {
-        Some(second) => Ok(Some(Current { second, header })),
-        None => Err(FileFault::Damaged { at: SWITCH_PLACE }),
+    let second = bytes[111] == OPEN;
+    if !second && bytes[111] != CLOSED {
+        return Err(FileFault::Damaged { at: SWITCH_PLACE });
     }
-}
-
-/// Reads the header and the marks of the file of the journal that is wanted; `None` if the file was
-/// not made yet: nothing was ever kept in it.
-pub fn read_file(bytes: &[u8], wanted: &Identity) -> Result<Option<Current>, FileFault>
-    ensures made { IfOk result (λ o. IfSome o (IsMadeFile bytes.now wanted.now)) }
-    ensures unmade { IfOk result (λ o. IfNone o (IsUnmade bytes.now)) }
-    ensures err { IfErr result (IsRefused bytes.now wanted.now) }
-    ensures opened { (c : Current) → IsMadeFile bytes.now wanted.now c → result ≡ Ok (Some c) }
-    ensures blank { IsUnmade bytes.now → result ≡ Ok None }
-{
-    checked_file(bytes, wanted)
+    Ok(Some(Current { second, header }))
 }
 
 /// The bytes of the area that counts.

@@ -1,5 +1,5 @@
 // What is written into a journal's file.
-ghost use Rattle.std.specs.Prelude.{◌≡◌, ◌<◌, ◌≤◌, ◌^◌, ◌++◌, ◌∷◌, [], IfOk, OnOk, drop, length};
+ghost use Rattle.std.specs.Prelude.{◌≡◌, ◌<◌, ◌≤◌, ◌^◌, ◌++◌, ◌∷◌, [], IfOk, drop, length};
 ghost use Rattle.st_journal_bytes.specs.Headers as headers;
 ghost use Rattle.st_journal_bytes.specs.Plain.{plain};
 ghost use Rattle.st_journal_file.specs.Layout as layout;

@@ -1,7 +1,7 @@
 // The header of a journal's file.
-ghost use Rattle.std.specs.Prelude.{◌≡◌, ◌≢◌, ◌≤◌, ◌+◌, ◌++◌, IfErr, IfOk, OnOk, length};
+ghost use Rattle.std.specs.Prelude.{◌≡◌, ◌+◌, ◌++◌, IfErr, IfOk, OnOk, length};
 ghost use Rattle.st_journal_bytes.specs.Headers as headers;
-ghost use Rattle.st_journal_bytes.specs.Headers.{HeaderFits, IdentityFits, IsHeaded, IsNoHeader, IsOther, SettingsFit};
+ghost use Rattle.st_journal_bytes.specs.Headers.{HeaderFits, IsHeaded, IsNoHeader, IsOther, SettingsFit};
 
 use crate::part::{put_part, read_part};
 use crate::words::{
@@ -56,21 +56,14 @@ pub enum HeaderFault {
     OtherSettings,
 }
 
-/// The ages of a lease.
-fn put_ages(out: &mut Vec<u8>, settings: &Config) -> Result<(), AllocError>
-    ensures { OnOk result (out.new.items ≡ out.old.items ++ headers.ages settings.now) }
+#[tactic(auto, unfolding(crate::specs::Headers::settings))]
+fn put_settings(out: &mut Vec<u8>, settings: &Config) -> Result<(), AllocError>
+    ensures { OnOk result (out.new.items ≡ out.old.items ++ headers.settings settings.now) }
 {
     put_word64(out, settings.lease)?;
     put_word64(out, settings.renew)?;
     put_word64(out, settings.quiesce)?;
     put_word64(out, settings.flush)?;
-    Ok(())
-}
-
-/// The other settings.
-fn put_bounds(out: &mut Vec<u8>, settings: &Config) -> Result<(), AllocError>
-    ensures { OnOk result (out.new.items ≡ out.old.items ++ headers.bounds settings.now) }
-{
     put_word64(out, settings.demand)?;
     put_word64(out, settings.retry)?;
     put_word64(out, settings.num)?;
@@ -79,33 +72,17 @@ fn put_bounds(out: &mut Vec<u8>, settings: &Config) -> Result<(), AllocError>
     Ok(())
 }
 
-fn put_settings(out: &mut Vec<u8>, settings: &Config) -> Result<(), AllocError>
-    ensures { OnOk result (out.new.items ≡ out.old.items ++ headers.settings settings.now) }
-{
-    put_ages(out, settings)?;
-    put_bounds(out, settings)?;
-    Ok(())
-}
-
-#[tactic(auto, unfolding(crate::specs::Headers::identity))]
-fn put_identity(out: &mut Vec<u8>, identity: &Identity) -> Result<(), AllocError>
-    ensures { OnOk result (out.new.items ≡ out.old.items ++ headers.identity identity.now) }
-{
-    put_word16(out, identity.server.0)?;
-    put_word16(out, identity.servers)?;
-    put_word16(out, identity.disks)?;
-    put_word32(out, identity.blocks)?;
-    put_settings(out, &identity.settings)?;
-    Ok(())
-}
-
-#[tactic(auto, unfolding(crate::specs::Headers::body))]
+#[tactic(auto, unfolding(crate::specs::Headers::body, crate::specs::Headers::identity))]
 fn body_of(alloc: Global, header: &Header) -> Result<Vec<u8>, AllocError>
     ensures { IfOk result (λ v. v.items ≡ headers.body header.now) }
 {
     let mut out = Vec::new(alloc);
     put_word32(&mut out, header.area)?;
-    put_identity(&mut out, &header.identity)?;
+    put_word16(&mut out, header.identity.server.0)?;
+    put_word16(&mut out, header.identity.servers)?;
+    put_word16(&mut out, header.identity.disks)?;
+    put_word32(&mut out, header.identity.blocks)?;
+    put_settings(&mut out, &header.identity.settings)?;
     Ok(out)
 }
 
@@ -148,36 +125,27 @@ fn settings_of(bytes: &[u8]) -> Config
     }
 }
 
-#[tactic(auto, unfolding(crate::specs::Headers::identity))]
-fn identity_of(bytes: &[u8]) -> Identity
-    requires { length bytes.now ≡ 82 }
-    ensures bytes { bytes.now ≡ headers.identity result }
-    ensures fits { IdentityFits result }
-{
-    let (server, rest) = split_word16(bytes);
-    let (servers, rest) = split_word16(rest);
-    let (disks, rest) = split_word16(rest);
-    let (blocks, rest) = split_word32(rest);
-    Identity {
-        server: ServerId(server),
-        servers,
-        disks,
-        blocks,
-        settings: settings_of(rest),
-    }
-}
-
 /// The header whose part has these bytes.
-#[tactic(auto, unfolding(crate::specs::Headers::body))]
+#[tactic(auto, unfolding(crate::specs::Headers::body, crate::specs::Headers::identity))]
 fn of_body(bytes: &[u8]) -> Header
     requires { length bytes.now ≡ 86 }
     ensures bytes { bytes.now ≡ headers.body result }
     ensures fits { HeaderFits result }
 {
     let (area, rest) = split_word32(bytes);
+    let (server, rest) = split_word16(rest);
+    let (servers, rest) = split_word16(rest);
+    let (disks, rest) = split_word16(rest);
+    let (blocks, rest) = split_word32(rest);
     Header {
         area,
-        identity: identity_of(rest),
+        identity: Identity {
+            server: ServerId(server),
+            servers,
+            disks,
+            blocks,
+            settings: settings_of(rest),
+        },
     }
 }
 

@@ -1,5 +1,5 @@
 // The moments at which snapshots and records were made.
-ghost use Rattle.std.specs.Prelude.{◌≡◌, ◌<◌, ◌≤◌, ◌^◌, ◌++◌, List, Ok, None, Some, ℕ, IfErr, IfNone, IfOk, IfSome, OnErr, OnOk, length};
+ghost use Rattle.std.specs.Prelude.{◌≡◌, ◌<◌, ◌≤◌, ◌^◌, List, Ok, None, Some, ℕ, IfErr, IfNone, IfOk, IfSome, OnOk, length};
 ghost use Rattle.st_journal_bytes.specs.Areas.{IsDamaged, StopsAt};
 ghost use Rattle.st_journal_bytes.specs.Moments as moments;
 ghost use Rattle.st_journal_bytes.specs.Moments.{HasMoment, HaveMoment};
@@ -55,24 +55,14 @@ fn moment_of(bytes: &[u8]) -> Option<u64>
     ]))
 }
 
-/// A moment that is not before this one.
-fn later(moment: u64, next: Option<u64>) -> Option<u64>
-    ensures { result ≡ moments.later moment next }
-{
-    match next {
-        Some(next) => { if next < moment { None } else { Some(next) } }
-        None => None,
-    }
-}
-
-/// The last moment after one more record.
+/// The last moment after one more record, which must not be an earlier one. In the loop that calls
+/// it, the prover would lose what each branch found.
 fn after_record(last: Option<u64>, record_bytes: &[u8]) -> Option<u64>
     ensures { result ≡ moments.after_record last record_bytes.now }
 {
-    match last {
-        Some(last) => later(last, moment_of(record_bytes)),
-        None => None,
-    }
+    let last = last?;
+    let next = moment_of(record_bytes)?;
+    if next < last { None } else { Some(next) }
 }
 
 /// Reads records to their end: the moment of the last one.
@@ -92,12 +82,13 @@ fn read_moments(bytes: &[u8], first: Option<u64>) -> Result<Option<u64>, Damaged
     Ok(last)
 }
 
-/// The moment of the last record of an area of less than 2^32 bytes, from the left.
-fn found_moment(area: &[u8]) -> Result<Option<u64>, Damaged>
+/// The moment of the last record of an area of less than 2^32 bytes, or of its snapshot if there is
+/// no record; `None` if one of them has no moment, or an earlier one than the one before it.
+pub fn last_moment(area: &[u8]) -> Result<Option<u64>, Damaged>
     requires { length area.now < 2 ^ 32 }
     ensures ok { IfOk result (HasMoment area.now) }
     ensures damaged { IfErr result (λ d. IsDamaged area.now d.at) }
-    ensures no_area { OnErr result ((snapshot : List ℕ) (records : List (List ℕ)) → IsArea plain area.now snapshot records → ⊥) }
+    ensures exact { (snapshot : List ℕ) (records : List (List ℕ)) → IsArea plain area.now snapshot records → result ≡ Ok (moments.after_records (moments.moment_of snapshot) records) }
 {
     let Some((snapshot, rest)) = read_part(area) else {
         return Err(Damaged { at: 0 });
@@ -109,17 +100,6 @@ fn found_moment(area: &[u8]) -> Result<Option<u64>, Damaged>
             at: front + damaged.at,
         }),
     }
-}
-
-/// The moment of the last record of an area of less than 2^32 bytes, or of its snapshot if there is
-/// no record; `None` if one of them has no moment, or an earlier one than the one before it.
-pub fn last_moment(area: &[u8]) -> Result<Option<u64>, Damaged>
-    requires { length area.now < 2 ^ 32 }
-    ensures ok { IfOk result (HasMoment area.now) }
-    ensures damaged { IfErr result (λ d. IsDamaged area.now d.at) }
-    ensures exact { (snapshot : List ℕ) (records : List (List ℕ)) → IsArea plain area.now snapshot records → result ≡ Ok (moments.after_records (moments.moment_of snapshot) records) }
-{
-    found_moment(area)
 }
 
 /// Whether a journal with this last moment may be opened now.

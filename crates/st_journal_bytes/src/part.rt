@@ -1,6 +1,5 @@
 // Parts: some bytes with their number in front, and a sum of either.
 ghost use Rattle.std.specs.Prelude.{◌≡◌, ◌<◌, ◌^◌, ◌++◌, List, ℕ, IfNone, IfSome, OnOk, length, option_map};
-ghost use Rattle.st_crc32c.specs.Crc as crc;
 ghost use Rattle.st_journal_bytes.specs.Plain.{plain};
 ghost use Rattle.st_journal_bytes.specs.Reading as reading;
 ghost use Rattle.st_journal_file.specs.Layout.{part, word32};
@@ -8,14 +7,6 @@ ghost use Rattle.st_journal_file.specs.Layout.{part, word32};
 use crate::words::{after_front, put_word32, read_text, read_word32};
 use st_crc32c::crc32c;
 use std::alloc::AllocError;
-
-/// The sum of some bytes, as four bytes.
-#[tactic(auto, unfolding(st_journal_file::specs::Layout::word32))]
-fn sum_of(bytes: &[u8]) -> [u8; 4]
-    ensures { result ≡ word32 (crc.crc32c bytes.now) }
-{
-    crc32c(bytes).to_be_bytes()
-}
 
 /// Appends a part with these bytes.
 #[tactic(auto, unfolding(st_journal_file::specs::Layout::part, st_journal_file::specs::Layout::word32))]
@@ -32,27 +23,20 @@ pub fn put_part(out: &mut Vec<u8>, body: &[u8]) -> Result<(), AllocError>
 }
 
 /// The bytes after the sum of some bytes.
-#[tactic(auto, unfolding(crate::specs::Reading::after_sum))]
+#[tactic(auto, unfolding(crate::specs::Reading::after_sum, st_journal_file::specs::Layout::word32))]
 fn after_sum<'a>(summed: &[u8], bytes: &'a [u8]) -> Option<&'a [u8]>
     ensures { option_map (λ x. x.now) result ≡ reading.after_sum summed.now bytes.now }
 {
-    after_front(&sum_of(summed), bytes)
+    after_front(&crc32c(summed).to_be_bytes(), bytes)
 }
 
-/// The same, of the four bytes of a number.
-#[tactic(auto, unfolding(st_journal_file::specs::Layout::word32))]
-fn after_sum_of_number(number: u32, bytes: &[u8]) -> Option<&[u8]>
-    ensures { option_map (λ x. x.now) result ≡ reading.after_sum (word32 number) bytes.now }
-{
-    after_sum(&number.to_be_bytes(), bytes)
-}
-
-#[tactic(auto, unfolding(crate::specs::Reading::part_at))]
+/// What `read_part` reads, as one equation: its clauses speak of every part that may be there.
+#[tactic(auto, unfolding(crate::specs::Reading::part_at, st_journal_file::specs::Layout::word32))]
 fn part_at(bytes: &[u8]) -> Option<(&[u8], &[u8])>
     ensures { option_map (λ x. (x.0.now, x.1.now)) result ≡ reading.part_at bytes.now }
 {
     let (count, rest) = read_word32(bytes)?;
-    let rest = after_sum_of_number(count, rest)?;
+    let rest = after_sum(&count.to_be_bytes(), rest)?;
     let (body, rest) = read_text(count as usize, rest)?;
     let rest = after_sum(body, rest)?;
     Some((body, rest))

@@ -30,22 +30,6 @@ pub fn put_word64(out: &mut Vec<u8>, number: u64) -> Result<(), AllocError>
     out.extend_from_slice(&number.to_be_bytes())
 }
 
-/// The number that two bytes spell.
-fn word16_of(bytes: &[u8]) -> u16
-    requires { length bytes.now ≡ 2 }
-    ensures { words.word16 result ≡ bytes.now }
-{
-    u16::from_be_bytes([bytes[0], bytes[1]])
-}
-
-/// The number that four bytes spell.
-fn word32_of(bytes: &[u8]) -> u32
-    requires { length bytes.now ≡ 4 }
-    ensures { word32 result ≡ bytes.now }
-{
-    u32::from_be_bytes([bytes[0], bytes[1], bytes[2], bytes[3]])
-}
-
 /// The number that eight bytes spell.
 pub(crate) fn word64_of(bytes: &[u8]) -> u64
     requires { length bytes.now ≡ 8 }
@@ -57,23 +41,26 @@ pub(crate) fn word64_of(bytes: &[u8]) -> u64
 }
 
 /// A number of two bytes, and the bytes after it.
+#[tactic(auto, using(crate::proofs::Numbers::front_16))]
 pub fn split_word16(bytes: &[u8]) -> (u16, &[u8])
     requires { 2 ≤ length bytes.now }
     ensures front { bytes.now ≡ words.word16 result.0 ++ result.1.now }
     ensures rest { length result.1.now + 2 ≡ length bytes.now }
 {
     let (front, rest) = bytes.split_at(2);
-    (word16_of(front), rest)
+    (u16::from_be_bytes([front[0], front[1]]), rest)
 }
 
 /// A number of four bytes, and the bytes after it.
+#[tactic(auto, using(crate::proofs::Numbers::front_32))]
 pub fn split_word32(bytes: &[u8]) -> (u32, &[u8])
     requires { 4 ≤ length bytes.now }
     ensures front { bytes.now ≡ word32 result.0 ++ result.1.now }
     ensures rest { length result.1.now + 4 ≡ length bytes.now }
 {
     let (front, rest) = bytes.split_at(4);
-    (word32_of(front), rest)
+    let number = u32::from_be_bytes([front[0], front[1], front[2], front[3]]);
+    (number, rest)
 }
 
 /// A number of eight bytes, and the bytes after it.

@@ -1,22 +1,36 @@
 -- Texts that are appended one after another.
-use Rattle.std.proofs.Common.{◌≡◌, ℕ, List, ◌++◌, Result, Ok, Err, OnOk, sym, ◌∙◌, ap}
+use Rattle.std.proofs.Common.{◌≡◌, ℕ, List, ◌++◌, Result, Ok, Err, OnOk, ◌∙◌, ap}
 use Rattle.std.proofs.lemmas.List.{append_assoc}
 
--- one text more after others
-one_more : (old front all piece : List ℕ) → old ++ front ≡ all → old ++ (front ++ piece) ≡ all ++ piece
-one_more old front all piece e = sym (append_assoc old front piece) ∙ ap (λ t. t ++ piece) e
+-- two texts more
+next_two : (old one two front a b : List ℕ) → one ≡ old ++ front → two ≡ one ++ (a ++ b) → two ≡ old ++ (front ++ (a ++ b))
+next_two old one two front a b h k = k ∙ ap (λ t. t ++ (a ++ b)) h ∙ append_assoc old front (a ++ b)
 
-six_more : (old a b c d e f g : List ℕ) → old ++ (a ++ b ++ c ++ d ++ e ++ f ++ g) ≡ old ++ a ++ b ++ c ++ d ++ e ++ f ++ g
-six_more old a b c d e f g =
-    one_more old _ _ g (one_more old _ _ f (one_more old _ _ e (one_more old _ _ d (one_more old _ _ c (sym (append_assoc old a b))))))
+regrouped : (a b c d e f g h i j k l m n o p q : List ℕ) →
+    ((((((((a ++ b) ++ (c ++ d)) ++ (e ++ f)) ++ (g ++ h)) ++ (i ++ j)) ++ (k ++ l)) ++ (m ++ n)) ++ (o ++ p)) ++ q
+    ≡ (a ++ b ++ c ++ d ++ e ++ f) ++ (g ++ h ++ i ++ j ++ k ++ l) ++ m ++ n ++ o ++ p ++ q
+regrouped a b c d e f g h i j k l m n o p q = simp append_assoc
 
-in_six : (old one two new a b c d e f g : List ℕ) → one ≡ old ++ a → two ≡ one ++ b → new ≡ two ++ c ++ d ++ e ++ f ++ g →
-    new ≡ old ++ (a ++ b ++ c ++ d ++ e ++ f ++ g)
-in_six old one two new a b c d e f g h k l =
-    l ∙ ap (λ t. t ++ c ++ d ++ e ++ f ++ g) (k ∙ ap (λ t. t ++ b) h) ∙ sym (six_more old a b c d e f g)
+-- eight times two texts, and then one
+in_nine : (old s t u v w x y z new a b c d e f g h i j k l m n o p q : List ℕ) →
+    s ≡ old ++ (a ++ b) → t ≡ s ++ (c ++ d) → u ≡ t ++ (e ++ f) → v ≡ u ++ (g ++ h) → w ≡ v ++ (i ++ j) → x ≡ w ++ (k ++ l) → y ≡ x ++ (m ++ n) →
+    z ≡ y ++ (o ++ p) → new ≡ z ++ q →
+    new ≡ old ++ ((a ++ b ++ c ++ d ++ e ++ f) ++ (g ++ h ++ i ++ j ++ k ++ l) ++ m ++ n ++ o ++ p ++ q)
+in_nine old s t u v w x y z new a b c d e f g h i j k l m n o p q is it iu iv iw ix iy iz inew =
+    let ft = next_two old s t _ c d is it in
+    let fu = next_two old t u _ e f ft iu in
+    let fv = next_two old u v _ g h fu iv in
+    let fw = next_two old v w _ i j fv iw in
+    let fx = next_two old w x _ k l fw ix in
+    let fy = next_two old x y _ m n fx iy in
+    let fz = next_two old y z _ o p fy iz in
+    inew ∙ ap (λ r. r ++ q) fz ∙ append_assoc old _ q ∙ ap (λ r. old ++ r) (regrouped a b c d e f g h i j k l m n o p q)
 
--- a text and another, and then five, unless these were not written
-pub in_parts : {A E : Type 0} → (r : Result A E) (old one two new a b c d e f g : List ℕ) → one ≡ old ++ a → two ≡ one ++ b →
-    OnOk r (new ≡ two ++ c ++ d ++ e ++ f ++ g) → OnOk r (new ≡ old ++ (a ++ b ++ c ++ d ++ e ++ f ++ g))
-in_parts (Ok x) old one two new a b c d e f g h k l = in_six old one two new a b c d e f g h k l
-in_parts (Err x) old one two new a b c d e f g h k l = l
+-- the same, unless the last one was not written
+pub in_parts : {A E : Type 0} → (r : Result A E) (old s t u v w x y z new a b c d e f g h i j k l m n o p q : List ℕ) →
+    s ≡ old ++ (a ++ b) → t ≡ s ++ (c ++ d) → u ≡ t ++ (e ++ f) → v ≡ u ++ (g ++ h) → w ≡ v ++ (i ++ j) → x ≡ w ++ (k ++ l) → y ≡ x ++ (m ++ n) →
+    z ≡ y ++ (o ++ p) → OnOk r (new ≡ z ++ q) →
+    OnOk r (new ≡ old ++ ((a ++ b ++ c ++ d ++ e ++ f) ++ (g ++ h ++ i ++ j ++ k ++ l) ++ m ++ n ++ o ++ p ++ q))
+in_parts (Ok done) old s t u v w x y z new a b c d e f g h i j k l m n o p q is it iu iv iw ix iy iz inew =
+    in_nine old s t u v w x y z new a b c d e f g h i j k l m n o p q is it iu iv iw ix iy iz inew
+in_parts (Err fault) old s t u v w x y z new a b c d e f g h i j k l m n o p q is it iu iv iw ix iy iz inew = inew

@@ -27,6 +27,8 @@ fn put_pair(out: &mut Vec<u8>, word: &[u8], a: u64, b: u64) -> Result<(), AllocE
     put_field(out, b)
 }
 
+/// Appends an answer. It is a function of its own for the prover, which doesn't join these texts to
+/// those of the line inside the match.
 #[tactic(auto, unfolding(st_rules::specs::Report::answer))]
 pub(crate) fn put_answer(out: &mut Vec<u8>, answer: &AppAnswer) -> Result<(), AllocError>
     ensures { OnOk result (out.new.items ≡ out.old.items ++ text.answer answer.now) }

@@ -13,6 +13,8 @@ fn put_block(out: &mut Vec<u8>, at: BlockAt) -> Result<(), AllocError>
     put_field(out, u64::from(at.block))
 }
 
+/// Appends a command. It is a function of its own for the prover, which doesn't join these texts to
+/// those of the line inside the match.
 #[tactic(auto, unfolding(st_rules::specs::Report::command))]
 pub(crate) fn put_command(out: &mut Vec<u8>, what: &Command) -> Result<(), AllocError>
     ensures { OnOk result (out.new.items ≡ out.old.items ++ text.command what.now) }

@@ -1,6 +1,5 @@
 // What is asked of names, and what answers it, in a report.
 ghost use Rattle.std.specs.Prelude.{◌≡◌, ◌++◌, OnOk};
-ghost use Rattle.std.specs.List.{flat_map};
 ghost use Rattle.st_rules.specs.Report as text;
 
 use crate::words::{put_field, put_number, put_text};
@@ -13,15 +12,6 @@ fn put_name(out: &mut Vec<u8>, name: &[u8]) -> Result<(), AllocError>
 {
     out.push(b' ')?;
     put_text(out, name)
-}
-
-fn put_after(out: &mut Vec<u8>, after: &[u8]) -> Result<(), AllocError>
-    ensures { OnOk result (out.new.items ≡ out.old.items ++ text.after after.now) }
-{
-    match after {
-        [] => put_text(out, b" -"),
-        _ => put_name(out, after),
-    }
 }
 
 /// Appends the number of a request on names, its directory and a name in it.
@@ -57,7 +47,10 @@ pub(crate) fn put_name_op(out: &mut Vec<u8>, op: &NameOp) -> Result<(), AllocErr
         NameOp::List { dir, after } => {
             put_field(out, 6)?;
             put_field(out, u64::from(*dir))?;
-            put_after(out, after.as_slice())
+            match after.as_slice() {
+                [] => put_text(out, b" -"),
+                after => put_name(out, after),
+            }
         }
     }
 }
@@ -69,9 +62,11 @@ fn kind_of(directory: bool) -> u64
     if directory { 2 } else { 1 }
 }
 
-fn put_each_name_row(out: &mut Vec<u8>, rows: &[NameRow]) -> Result<(), AllocError>
-    ensures { OnOk result (out.new.items ≡ out.old.items ++ flat_map text.name_row rows.now) }
+/// Appends the entries of a listing.
+pub(crate) fn put_name_rows(out: &mut Vec<u8>, rows: &[NameRow]) -> Result<(), AllocError>
+    ensures { OnOk result (out.new.items ≡ out.old.items ++ text.name_rows rows.now) }
 {
+    put_field(out, rows.len() as u64)?;
     for r in rows {
         put_field(out, u64::from(r.ino))?;
         out.push(b':')?;
@@ -80,14 +75,6 @@ fn put_each_name_row(out: &mut Vec<u8>, rows: &[NameRow]) -> Result<(), AllocErr
         put_text(out, r.name.as_slice())?;
     }
     Ok(())
-}
-
-/// Appends the entries of a listing.
-pub(crate) fn put_name_rows(out: &mut Vec<u8>, rows: &[NameRow]) -> Result<(), AllocError>
-    ensures { OnOk result (out.new.items ≡ out.old.items ++ text.name_rows rows.now) }
-{
-    put_field(out, rows.len() as u64)?;
-    put_each_name_row(out, rows)
 }
 
 pub(crate) fn put_name_reply(out: &mut Vec<u8>, reply: &NameReply) -> Result<(), AllocError>

@@ -210,21 +210,15 @@ fn put_observation(out: &mut Vec<u8>, o: &Observation) -> Result<(), AllocError>
     }
 }
 
-#[tactic(auto, unfolding(st_rules::specs::Report::line))]
-fn put_line(out: &mut Vec<u8>, event: u64, o: &Observation) -> Result<(), AllocError>
-    ensures { OnOk result (out.new.items ≡ out.old.items ++ text.line event o.now) }
-{
-    put_number(out, event)?;
-    put_observation(out, o)?;
-    put_text(out, b"\n")
-}
-
 /// Appends a line for each observation of the event of this number.
+#[tactic(auto, unfolding(st_rules::specs::Report::line))]
 pub fn put_lines(out: &mut Vec<u8>, event: u64, seen: &[Observation]) -> Result<(), AllocError>
     ensures { OnOk result (out.new.items ≡ out.old.items ++ text.lines event seen.now) }
 {
     for o in seen {
-        put_line(out, event, o)?;
+        put_number(out, event)?;
+        put_observation(out, o)?;
+        put_text(out, b"\n")?;
     }
     Ok(())
 }

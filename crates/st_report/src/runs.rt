@@ -1,5 +1,4 @@
 ghost use Rattle.std.specs.Prelude.{◌≡◌, ◌++◌, OnOk};
-ghost use Rattle.st_base.specs.Page.{filled};
 ghost use Rattle.st_rules.specs.Report as text;
 
 use crate::words::{put_behind, put_number, put_text};
@@ -46,20 +45,15 @@ pub(crate) fn put_runs(out: &mut Vec<u8>, bytes: &[u8]) -> Result<(), AllocError
     }
 }
 
-/// Appends the one run of a page of one byte repeated.
-fn put_filled(out: &mut Vec<u8>, byte: u8) -> Result<(), AllocError>
-    ensures { OnOk result (out.new.items ≡ out.old.items ++ text.runs (filled byte)) }
-{
-    put_text(out, b" ")?;
-    put_run(out, 4096, byte)
-}
-
 /// Appends the runs of equal bytes in a page. It counts no bytes of a page of one byte repeated.
 pub fn put_page(out: &mut Vec<u8>, bytes: &PageBytes) -> Result<(), AllocError>
     ensures { OnOk result (out.new.items ≡ out.old.items ++ text.runs bytes.now) }
 {
     match bytes.repeated() {
-        Some(byte) => put_filled(out, byte),
+        Some(byte) => {
+            put_text(out, b" ")?;
+            put_run(out, 4096, byte)
+        }
         None => put_runs(out, bytes.as_slice()),
     }
 }

@@ -31,12 +31,24 @@ fn digit(n: u64) -> u8
     b'0' + (n % 10) as u8
 }
 
-/// Appends a number of at most five digits. Most numbers of a report have one.
-#[tactic(auto, using(std::proofs::lemmas::Fmt::decimal_digit, crate::proofs::Digits::two, crate::proofs::Digits::three, crate::proofs::Digits::four, crate::proofs::Digits::five))]
-fn put_short(out: &mut Vec<u8>, n: u64) -> Result<(), AllocError>
-    requires { n < 100000 }
+/// Appends a number of any length.
+#[cold]
+#[inline(never)]
+fn put_long(out: &mut Vec<u8>, n: u64) -> Result<(), AllocError>
     ensures { OnOk result (out.new.items ≡ out.old.items ++ decimal n) }
 {
+    let mut buffer = Buffer::new();
+    out.extend_from_slice(buffer.format(n).as_bytes())
+}
+
+/// Appends a number in decimal. Most numbers of a report have at most five digits.
+#[tactic(auto, using(std::proofs::lemmas::Fmt::decimal_digit, crate::proofs::Digits::two, crate::proofs::Digits::three, crate::proofs::Digits::four, crate::proofs::Digits::five))]
+pub fn put_number(out: &mut Vec<u8>, n: u64) -> Result<(), AllocError>
+    ensures { OnOk result (out.new.items ≡ out.old.items ++ decimal n) }
+{
+    if !is_short(out, n) {
+        return put_long(out, n);
+    }
     if n < 10 {
         return out.extend_from_slice(&[b'0' + n as u8]);
     }
@@ -52,33 +64,15 @@ fn put_short(out: &mut Vec<u8>, n: u64) -> Result<(), AllocError>
     }
 }
 
-/// Appends a number of any length.
-#[cold]
-#[inline(never)]
-fn put_long(out: &mut Vec<u8>, n: u64) -> Result<(), AllocError>
-    ensures { OnOk result (out.new.items ≡ out.old.items ++ decimal n) }
-{
-    let mut buffer = Buffer::new();
-    out.extend_from_slice(buffer.format(n).as_bytes())
-}
-
-/// Appends a number in decimal.
-pub fn put_number(out: &mut Vec<u8>, n: u64) -> Result<(), AllocError>
-    ensures { OnOk result (out.new.items ≡ out.old.items ++ decimal n) }
-{
-    if is_short(out, n) {
-        put_short(out, n)
-    } else {
-        put_long(out, n)
-    }
-}
-
-/// Appends a byte and a number of at most five digits.
+/// Appends a byte and a number in decimal.
 #[tactic(auto, using(std::proofs::lemmas::Fmt::decimal_digit, crate::proofs::Digits::two, crate::proofs::Digits::three, crate::proofs::Digits::four, crate::proofs::Digits::five))]
-fn put_short_behind(out: &mut Vec<u8>, front: u8, n: u64) -> Result<(), AllocError>
-    requires { n < 100000 }
+pub(crate) fn put_behind(out: &mut Vec<u8>, front: u8, n: u64) -> Result<(), AllocError>
     ensures { OnOk result (out.new.items ≡ out.old.items ++ front ∷ decimal n) }
 {
+    if !is_short(out, n) {
+        out.push(front)?;
+        return put_long(out, n);
+    }
     if n < 10 {
         return out.extend_from_slice(&[front, b'0' + n as u8]);
     }
@@ -91,27 +85,6 @@ fn put_short_behind(out: &mut Vec<u8>, front: u8, n: u64) -> Result<(), AllocErr
         out.extend_from_slice(&[front, a, b, c, d])
     } else {
         out.extend_from_slice(&[front, digit(n / 10_000), a, b, c, d])
-    }
-}
-
-/// Appends a byte and a number of any length.
-#[cold]
-#[inline(never)]
-fn put_long_behind(out: &mut Vec<u8>, front: u8, n: u64) -> Result<(), AllocError>
-    ensures { OnOk result (out.new.items ≡ out.old.items ++ front ∷ decimal n) }
-{
-    out.push(front)?;
-    put_long(out, n)
-}
-
-/// Appends a byte and a number in decimal.
-pub(crate) fn put_behind(out: &mut Vec<u8>, front: u8, n: u64) -> Result<(), AllocError>
-    ensures { OnOk result (out.new.items ≡ out.old.items ++ front ∷ decimal n) }
-{
-    if is_short(out, n) {
-        put_short_behind(out, front, n)
-    } else {
-        put_long_behind(out, front, n)
     }
 }
 
@@ -162,23 +135,16 @@ pub(crate) fn put_node(out: &mut Vec<u8>, n: NodeId) -> Result<(), AllocError>
     }
 }
 
-/// The node of a number in a message.
-#[tactic(auto, unfolding(st_rules::specs::World::node_at))]
-fn node_of(n: u16) -> NodeId
-    ensures { result ≡ node_at n }
-{
-    if n <= 16 {
-        NodeId::Client(ClientId(n))
-    } else {
-        NodeId::Server(ServerId(n.saturating_sub(ServerId::BASE)))
-    }
-}
-
 /// Appends the node of a number in a message.
+#[tactic(auto, unfolding(st_rules::specs::World::node_at))]
 pub(crate) fn put_party(out: &mut Vec<u8>, n: u16) -> Result<(), AllocError>
     ensures { OnOk result (out.new.items ≡ out.old.items ++ text.node (node_at n)) }
 {
-    put_node(out, node_of(n))
+    if n <= 16 {
+        put_client(out, ClientId(n))
+    } else {
+        put_server(out, ServerId(n.saturating_sub(ServerId::BASE)))
+    }
 }
 
 pub(crate) fn put_file(out: &mut Vec<u8>, file: FileId) -> Result<(), AllocError>

@@ -14,25 +14,6 @@ use st_messages::{Event, Steps};
 use st_schedule_words::{MOST_NUMBER, is, split_word};
 use std::alloc::Global;
 
-/// Reads `count` increments, each at least `least`.
-fn steps_at(
-    alloc: Global,
-    least: u64,
-    count: usize,
-    rest: &[u8],
-) -> Result<(Vec<u64>, &[u8]), ReadError>
-    ensures { Gives (λ x. (x.0.items, words_behind x.1.now)) result (reading.steps_at least count (words_behind rest.now)) }
-{
-    let mut steps = Vec::new(alloc);
-    let mut after = rest;
-    for _ in 0..count {
-        let (step, behind) = number_at(least, MOST_NUMBER, after)?;
-        steps.push(step)?;
-        after = behind;
-    }
-    Ok((steps, after))
-}
-
 /// A line with one increment gives it to every node; a line with more words has one increment for
 /// each node.
 #[tactic(auto, using(crate::proofs::Increments::more_words), unfolding(crate::specs::Parser::steps_of))]
@@ -48,10 +29,16 @@ fn steps_of<'a>(
 {
     if rest.is_empty() {
         let steps = vec![in alloc; step; nodes]?;
-        Ok((steps, rest))
-    } else {
-        steps_at(alloc, least, nodes, all)
+        return Ok((steps, rest));
     }
+    let mut steps = Vec::new(alloc);
+    let mut after = all;
+    for _ in 0..nodes {
+        let (step, behind) = number_at(least, MOST_NUMBER, after)?;
+        steps.push(step)?;
+        after = behind;
+    }
+    Ok((steps, after))
 }
 
 #[tactic(auto, unfolding(crate::specs::Parser::link_at))]

@@ -27,26 +27,9 @@ fn three_at(rest: &[u8]) -> Result<((u64, u64, u64), &[u8]), ReadError>
     Ok(((first, second, third), rest))
 }
 
-#[tactic(auto, unfolding(crate::specs::Parser::counts_at))]
-fn counts_at(rest: &[u8]) -> Result<(Counts, &[u8]), ReadError>
-    ensures { Gives (λ x. (x.0, words_behind x.1.now)) result (reading.counts_at (words_behind rest.now)) }
-{
-    let (clients, rest) = number_at(1, 16, rest)?;
-    let (servers, rest) = number_at(1, 4, rest)?;
-    let (disks, rest) = number_at(servers, 8, rest)?;
-    let (blocks, rest) = number_at(1, 4096, rest)?;
-    let counts = Counts {
-        clients: clients as u16,
-        servers: servers as u16,
-        disks: disks as u16,
-        blocks: blocks as u32,
-    };
-    Ok((counts, rest))
-}
-
 /// The settings, the counts and the form of a head, read from the words after `tank`. The grain is
 /// a word of the second form; under the first form it is 0.
-#[tactic(auto, unfolding(crate::specs::Parser::head_at, crate::specs::Parser::config_at, crate::specs::Parser::rate_at, crate::specs::Parser::grain_at))]
+#[tactic(auto, unfolding(crate::specs::Parser::head_at, crate::specs::Parser::config_at, crate::specs::Parser::rate_at, crate::specs::Parser::grain_at, crate::specs::Parser::counts_at))]
 pub(crate) fn head_at(rest: &[u8]) -> Result<(Config, Counts, u8), ReadError>
     ensures { Gives (λ x. x) result (reading.head_at (words_behind rest.now)) }
 {
@@ -60,7 +43,10 @@ pub(crate) fn head_at(rest: &[u8]) -> Result<(Config, Counts, u8), ReadError>
     } else {
         (0, rest)
     };
-    let (counts, rest) = counts_at(rest)?;
+    let (clients, rest) = number_at(1, 16, rest)?;
+    let (servers, rest) = number_at(1, 4, rest)?;
+    let (disks, rest) = number_at(servers, 8, rest)?;
+    let (blocks, rest) = number_at(1, 4096, rest)?;
     ends(rest)?;
     let config = Config {
         lease,
@@ -72,6 +58,12 @@ pub(crate) fn head_at(rest: &[u8]) -> Result<(Config, Counts, u8), ReadError>
         num,
         den,
         grain,
+    };
+    let counts = Counts {
+        clients: clients as u16,
+        servers: servers as u16,
+        disks: disks as u16,
+        blocks: blocks as u32,
     };
     Ok((config, counts, form))
 }

@@ -160,24 +160,17 @@ fn are_equal(steps: &[u64]) -> bool
     steps.iter().all(|d| *d == first)
 }
 
-fn put_all(out: &mut Vec<u8>, steps: &[u64]) -> Result<(), AllocError>
-    ensures { OnOk result (out.new.items ≡ out.old.items ++ spaced (grammar.in_full steps.now)) }
-{
-    for d in steps {
-        put_field(out, *d)?;
-    }
-    Ok(())
-}
-
 /// Appends the increments, or one if all are equal.
 fn put_steps(out: &mut Vec<u8>, steps: &[u64]) -> Result<(), AllocError>
     ensures { OnOk result (out.new.items ≡ out.old.items ++ spaced (grammar.steps_words steps.now)) }
 {
     if are_equal(steps) {
-        put_field(out, first_step(steps))
-    } else {
-        put_all(out, steps)
+        return put_field(out, first_step(steps));
     }
+    for d in steps {
+        put_field(out, *d)?;
+    }
+    Ok(())
 }
 
 /// Appends the words after the verb.

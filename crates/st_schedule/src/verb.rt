@@ -1,4 +1,4 @@
-// The words for events, asks, results and forms.
+// The words for events and asks.
 ghost use Rattle.std.specs.Prelude.{◌≡◌};
 ghost use Rattle.st_schedule.specs.Parser as reading;
 
@@ -92,30 +92,6 @@ pub(crate) fn ask_verb_of(form: u8, word: &[u8]) -> Option<AskVerb>
         Some(AskVerb::Rename)
     } else if is(word, b"list") {
         Some(AskVerb::List)
-    } else {
-        None
-    }
-}
-
-pub(crate) fn result_of(word: &[u8]) -> Option<bool>
-    ensures { result ≡ reading.result_of word.now }
-{
-    if is(word, b"ok") {
-        Some(true)
-    } else if is(word, b"fail") {
-        Some(false)
-    } else {
-        None
-    }
-}
-
-pub(crate) fn form_of(word: &[u8]) -> Option<u8>
-    ensures { result ≡ reading.form_of word.now }
-{
-    if is(word, b"1") {
-        Some(1)
-    } else if is(word, b"2") {
-        Some(2)
     } else {
         None
     }

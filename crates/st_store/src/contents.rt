@@ -1,5 +1,5 @@
 // The bytes of a store in memory, with the record of what was written and synced.
-ghost use Rattle.std.specs.Prelude.{◌≡◌, ◌≤◌, ◌+◌, ◌++◌, ◌∷◌, [], All, IfOk, OnOk, OnErr, length, take, drop, replicate};
+ghost use Rattle.std.specs.Prelude.{◌≡◌, ◌≤◌, ◌+◌, IfOk, OnOk, OnErr, length, take, drop, replicate};
 ghost use Rattle.st_store.specs.InMemory as memory;
 ghost use Rattle.st_store.specs.Invariants.{AreInside};
 ghost use Rattle.st_store.specs.Store.{written};
@@ -39,30 +39,13 @@ fn put(bytes: &mut [u8], at: usize, new: &[u8])
     bytes[at..at + new.len()].copy_from_slice(new);
 }
 
-/// Makes each byte this one.
-fn fill_all(bytes: &mut [u8], byte: u8)
-    ensures { bytes.new ≡ replicate (length bytes.old) byte }
-{
-    bytes.fill(byte);
-}
-
 /// Makes each byte of a range this one.
 fn fill_span(bytes: &mut [u8], span: Span, byte: u8)
     requires { span.at + span.count ≤ length bytes.old }
     ensures { bytes.new ≡ written bytes.old span.at (replicate span.count byte) }
 {
     let at = span.at as usize;
-    fill_all(&mut bytes[at..at + span.count as usize], byte);
-}
-
-/// Copies bytes from a place on.
-fn copy_part(bytes: &[u8], at: u64, room: &mut [u8])
-    requires { at + length room.old ≤ length bytes.now }
-    ensures { room.new ≡ take (length room.old) (drop at bytes.now) }
-{
-    let (_, rest) = bytes.split_at(at as usize);
-    let (part, _) = rest.split_at(room.len());
-    room.copy_from_slice(part);
+    bytes[at..at + span.count as usize].fill(byte);
 }
 
 /// Makes each byte of these ranges this one.
@@ -116,7 +99,9 @@ impl Contents {
         requires { at + length room.old ≤ self.now.size }
         ensures { room.new ≡ take (length room.old) (drop at (memory.held self.now).seen) }
     {
-        copy_part(self.bytes.as_slice(), at, room);
+        let (_, rest) = self.bytes.as_slice().split_at(at as usize);
+        let (part, _) = rest.split_at(room.len());
+        room.copy_from_slice(part);
     }
 
     /// Writes bytes, and records it. If it runs out of memory for the record, it changes nothing.

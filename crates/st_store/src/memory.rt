@@ -1,5 +1,5 @@
 // The store in memory.
-ghost use Rattle.std.specs.Prelude.{◌≡◌, ◌≤◌, ◌+◌, List, ℕ, true, false, IfOk, OnOk, OnErr, length, take, drop};
+ghost use Rattle.std.specs.Prelude.{◌≡◌, ◌≤◌, ◌+◌, true, false, IfOk, OnOk, length, take, drop};
 ghost use Rattle.st_link.specs.Causes.{HasCause};
 ghost use Rattle.st_store.specs.InMemory as memory;
 ghost use Rattle.st_store.specs.Laws as laws;
@@ -111,51 +111,7 @@ impl MemoryStore {
         failed
     }
 
-    /// The store stops in a call that found no memory for its record.
-    fn halt_starved(&mut self) -> Failed
-        ensures exact { self.new ≡ record self.old { plan = plans.halted (plans.failed self.old.plan); starved = true } }
-        ensures later { self.old.plan.faults ≤ self.new.plan.faults }
-    {
-        self.starved = true;
-        let failed = self.plan.fail();
-        self.plan.halt();
-        failed
-    }
-
-    fn write_in_time(&mut self, at: u64, bytes: &[u8]) -> Result<(), Failed>
-        requires { at + length bytes.now ≤ self.old.contents.size }
-        ensures ok { OnOk result (self.new ≡ memory.changed self.old (memory.with_write self.old.contents at bytes.now)) }
-        ensures err { OnErr result (self.new ≡ record self.old { plan = plans.failed self.old.plan; starved = true }) }
-        ensures later { self.old.plan.faults ≤ self.new.plan.faults }
-    {
-        match self.contents.write(at, bytes) {
-            Ok(()) => Ok(()),
-            Err(_) => Err(self.starve()),
-        }
-    }
-
-    fn write_and_stop(&mut self, at: u64, bytes: &[u8], byte: u8) -> Failed
-        requires { at + length bytes.now ≤ self.old.contents.size }
-        ensures exact { memory.StopsBehind self.old self.new (memory.with_write self.old.contents at bytes.now) byte }
-        ensures later { self.old.plan.faults ≤ self.new.plan.faults }
-    {
-        match self.contents.write(at, bytes) {
-            Ok(()) => self.halt(byte),
-            Err(_) => self.halt_starved(),
-        }
-    }
-
-    fn sync_in_time(&mut self) -> Result<(), Failed>
-        ensures ok { OnOk result (self.new ≡ memory.changed self.old (memory.with_sync self.old.contents)) }
-        ensures err { OnErr result (self.new ≡ record self.old { plan = plans.failed self.old.plan; starved = true }) }
-        ensures later { self.old.plan.faults ≤ self.new.plan.faults }
-    {
-        match self.contents.sync() {
-            Ok(()) => Ok(()),
-            Err(_) => Err(self.starve()),
-        }
-    }
-
+    /// Reads. The clauses of the trait follow from `exact`, by the result.
     fn read_bytes(&mut self, at: u64, room: &mut [u8]) -> Result<(), Failed>
         requires { at + length room.old ≤ self.old.contents.size }
         ensures bytes { OnOk result (room.new ≡ take (length room.old) (drop at (memory.held self.old.contents).seen)) }
@@ -172,24 +128,39 @@ impl MemoryStore {
         }
     }
 
+    /// Writes. The clauses of the trait follow from `exact`, by the result.
     fn write_bytes(&mut self, at: u64, bytes: &[u8]) -> Result<(), Failed>
         requires { at + length bytes.now ≤ self.old.contents.size }
         ensures exact { memory.Writes self.old self.new at bytes.now result }
         ensures later { self.old.plan.faults ≤ self.new.plan.faults }
     {
         match self.plan.call() {
-            Outcome::Works => self.write_in_time(at, bytes),
+            Outcome::Works => match self.contents.write(at, bytes) {
+                Ok(()) => Ok(()),
+                Err(_) => Err(self.starve()),
+            },
             Outcome::Fails => Err(self.fail()),
-            Outcome::Stops(byte) => Err(self.write_and_stop(at, bytes, byte)),
+            Outcome::Stops(byte) => match self.contents.write(at, bytes) {
+                Ok(()) => Err(self.halt(byte)),
+                Err(_) => {
+                    let failed = self.starve();
+                    self.plan.halt();
+                    Err(failed)
+                }
+            },
         }
     }
 
+    /// Syncs. The clauses of the trait follow from `exact`, by the result.
     fn sync_bytes(&mut self) -> Result<(), Failed>
         ensures exact { memory.Syncs self.old self.new result }
         ensures later { self.old.plan.faults ≤ self.new.plan.faults }
     {
         match self.plan.call() {
-            Outcome::Works => self.sync_in_time(),
+            Outcome::Works => match self.contents.sync() {
+                Ok(()) => Ok(()),
+                Err(_) => Err(self.starve()),
+            },
             Outcome::Fails => Err(self.fail()),
             Outcome::Stops(byte) => Err(self.halt(byte)),
         }

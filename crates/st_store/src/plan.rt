@@ -32,28 +32,6 @@ pub struct Plan {
     pub stopped: bool,
 }
 
-fn is_listed(failing: &[u64], call: u64) -> bool
-    ensures { result ≡ list_any (λ n. n == call) failing.now }
-{
-    failing.iter().any(|n| *n == call)
-}
-
-/// What becomes of a call, by the stop, if without a stop it is `other`.
-fn by_stop(stop: Option<Stop>, other: Outcome) -> Outcome
-    ensures { result ≡ plans.by_stop stop other }
-{
-    match stop {
-        None => other,
-        Some(stop) => {
-            if stop.left == 1 {
-                Outcome::Stops(stop.byte)
-            } else {
-                other
-            }
-        }
-    }
-}
-
 /// The stop with one call less to come.
 fn counted_down(stop: Option<Stop>) -> Option<Stop>
     ensures { result ≡ plans.counted_down stop }
@@ -67,14 +45,11 @@ fn counted_down(stop: Option<Stop>) -> Option<Stop>
     }
 }
 
-fn planned(failing: &[u64], call: u64) -> Outcome
-    ensures { result ≡ plans.planned failing.now call }
+/// Whether the call of this number is one that fails.
+fn is_listed(failing: &[u64], call: u64) -> bool
+    ensures { result ≡ list_any (λ n. n == call) failing.now }
 {
-    if is_listed(failing, call) {
-        Outcome::Fails
-    } else {
-        Outcome::Works
-    }
+    failing.iter().any(|n| *n == call)
 }
 
 impl Plan {
@@ -98,8 +73,16 @@ impl Plan {
         if self.stopped {
             return Outcome::Fails;
         }
-        let other = planned(self.failing.as_slice(), self.calls.saturating_add(1));
-        by_stop(self.stop, other)
+        match self.stop {
+            Some(stop) if stop.left == 1 => Outcome::Stops(stop.byte),
+            _ => {
+                if is_listed(self.failing.as_slice(), self.calls.saturating_add(1)) {
+                    Outcome::Fails
+                } else {
+                    Outcome::Works
+                }
+            }
+        }
     }
 
     /// Counts a call, and says what becomes of it.

@@ -1,7 +1,16 @@
-use Rattle.std.proofs.Common.{List, ℕ, ◌++◌, ap, ◌∙◌}
-use Rattle.st_journal_bytes.specs.Headers.{bounds}
-use Rattle.st_journal_bytes.proofs.Headers.{ages_first}
+use Rattle.st_journal_bytes.proofs.Headers.{settings_in_turn}
 use Rattle.st_journal_bytes.proofs.header.put_settings.Goals as goal
 
 pub returns : goal.returns
-returns c = c.in_ok-put_bounds.ensures ∙ (ap (λ (l : List ℕ). l ++ bounds c.args.settings.now) c.in_ok-put_ages.ensures ∙ ages_first c.args.out.now.items c.args.settings.now)
+returns c =
+    rw (
+      c.in_ok-put_word64-9.ensures,
+      c.in_ok-put_word64-8.ensures,
+      c.in_ok-put_word64-7.ensures,
+      c.in_ok-put_word64-6.ensures,
+      c.in_ok-put_word64-5.ensures,
+      c.in_ok-put_word64-4.ensures,
+      c.in_ok-put_word64-3.ensures,
+      c.in_ok-put_word64-2.ensures,
+      c.in_ok-put_word64.ensures,
+    ) (settings_in_turn c.args.out.now.items c.args.settings.now)
