@@ -1,0 +1,4 @@
+pub mod Serving
+pub mod Going
+pub mod Quiet
+pub mod Leavers
