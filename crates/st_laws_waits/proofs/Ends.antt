@@ -48,7 +48,7 @@ fewer_none {A} p q (x ∷ xs) e = go (p x) refl e (λ f. fewer_none p q xs f)
     go true f e r = cc
     go false f e r = cond_either (λ ys. find p ys ≡ None) (q x) (x ∷ filter q xs) (filter q xs) (λ g. ap (λ b. cond b (Some x) (find p (filter q xs))) f ∙ r e) (λ g. r e)
 
-now_suspect : (a : Authority) (c : ClientId) (now : Stamp) → may_ack a c ≡ true → is_some (suspect_of (authority.suspect a c now) c) ≡ true
+pub now_suspect : (a : Authority) (c : ClientId) (now : Stamp) → may_ack a c ≡ true → is_some (suspect_of (authority.suspect a c now) c) ≡ true
 now_suspect a c now e = go (is_some (suspect_of (authority.suspect a c now) c)) refl
   where
     go : (b : Bool) → is_some (suspect_of (authority.suspect a c now) c) ≡ b → b ≡ true
@@ -56,7 +56,7 @@ now_suspect a c now e = go (is_some (suspect_of (authority.suspect a c now) c)) 
     go false q = absurd (not_free a c now e (ap not q))
 
 -- two modes are the same or not
-same_mode : (a b : Mode) → (a ≡ b) ⊎ (a ≢ b)
+pub same_mode : (a b : Mode) → (a ≡ b) ⊎ (a ≢ b)
 same_mode modes.None modes.None = inl refl
 same_mode modes.None modes.S = inr (λ e. cc)
 same_mode modes.None modes.X = inr (λ e. cc)
@@ -72,11 +72,11 @@ module _ (w : Waiter) where
   first_among : (l : Locks) (q : Waiter → Bool) → q w ≡ true → IsFirst w l → find (is_wait_on w.ino) (filter q l.waiters) ≡ Some w
   first_among l q e f = find_filtered (is_wait_on w.ino) q w l.waiters f e
 
-  other_client : (c : ClientId) → c.0 ≢ w.client.0 → not (is_wait_by c w) ≡ true
+  pub other_client : (c : ClientId) → c.0 ≢ w.client.0 → not (is_wait_by c w) ≡ true
   other_client c ne = ap not (ne_eqb w.client.0 c.0 (λ e. ne (sym e)))
 
   -- a wait of another client or for another file
-  other_wait : (c : ClientId) (ino : ℕ) → (c.0 ≢ w.client.0) ⊎ (ino ≢ w.ino) → is_wait_of c ino w ≡ false
+  pub other_wait : (c : ClientId) (ino : ℕ) → (c.0 ≢ w.client.0) ⊎ (ino ≢ w.ino) → is_wait_of c ino w ≡ false
   other_wait c ino (inl ne) = and_left _ _ (ne_eqb w.client.0 c.0 (λ e. ne (sym e)))
   other_wait c ino (inr ne) = and_right _ _ (ne_eqb w.ino ino (λ e. ne (sym e)))
 
@@ -123,7 +123,7 @@ module _ (w : Waiter) where
   first_installed l c life rs f = f
 
   -- a grant of this wait
-  granted_now : (l : Locks) → IsGranted w (grant l w.client w.life w.ino w.mode)
+  pub granted_now : (l : Locks) → IsGranted w (grant l w.client w.life w.ino w.mode)
   unfolding grant
   granted_now l = record { row = new_row l w.client w.life w.ino w.mode; found = grant_own l w.client w.life w.ino w.mode; life = refl; mode = refl; waits_not = none }
     where
@@ -140,22 +140,22 @@ module _ (w : Waiter) where
               go false e r = ap (λ b. cond b (Some v) (find (is_wait_of w.client w.ino) (filter (λ v. not (is_wait_of w.client w.ino v)) vs))) e ∙ r
 
   -- what was granted stays so
-  granted_among : (l : Locks) (q : Waiter → Bool) → IsGranted w l → IsGranted w (record l { waiters = filter q l.waiters })
+  pub granted_among : (l : Locks) (q : Waiter → Bool) → IsGranted w l → IsGranted w (record l { waiters = filter q l.waiters })
   granted_among l q g = record { row = g.row; found = g.found; life = g.life; mode = g.mode; waits_not = fewer_none (is_wait_of w.client w.ino) q l.waiters g.waits_not }
 
-  granted_forgot : (l : Locks) (c : ClientId) → c.0 ≢ w.client.0 → IsGranted w l → IsGranted w (locks.forget l c)
+  pub granted_forgot : (l : Locks) (c : ClientId) → c.0 ≢ w.client.0 → IsGranted w l → IsGranted w (locks.forget l c)
   unfolding locks.forget
   granted_forgot l c ne g = record { row = g.row; found = forget_row l c w.client.0 w.ino ne ∙ g.found; life = g.life; mode = g.mode; waits_not = none }
     where
       none : wait_of (locks.forget l c) w.client w.ino ≡ None
       none = fewer_none (is_wait_of w.client w.ino) (λ v. not (is_wait_by c v)) l.waiters g.waits_not
 
-  granted_installed : (l : Locks) (c : ClientId) (life : Life) (rs : List (ℕ × GrantNo × Mode)) → IsGranted w l → IsGranted w (with_rows l c life rs)
+  pub granted_installed : (l : Locks) (c : ClientId) (life : Life) (rs : List (ℕ × GrantNo × Mode)) → IsGranted w l → IsGranted w (with_rows l c life rs)
   unfolding with_rows
   granted_installed l c life rs g =
       record { row = g.row; found = find_longer (is_row_of w.client w.ino) g.row l.rows (map (installed c life) rs) g.found; life = g.life; mode = g.mode; waits_not = g.waits_not }
 
-  granted_besides : (l : Locks) (v : Waiter) → Has v l.waiters → IsGranted w l → IsGranted w (grant l v.client v.life v.ino v.mode)
+  pub granted_besides : (l : Locks) (v : Waiter) → Has v l.waiters → IsGranted w l → IsGranted w (grant l v.client v.life v.ino v.mode)
   unfolding grant
   granted_besides l v h g = record { row = g.row; found = row (same_or_not v.client.0 w.client.0) ∙ g.found; life = g.life; mode = g.mode; waits_not = none }
     where
@@ -166,7 +166,7 @@ module _ (w : Waiter) where
       row (inr ne) = grant_other l v.client v.life v.ino v.mode w.client.0 w.ino ne
       row (inl e) = grant_elsewhere l v.client v.life v.ino v.mode w.client.0 w.ino (λ f. not_both (is_wait_of w.client w.ino v) (and_both _ _ (eq-eqb v.client.0 w.client.0 e) (eq-eqb v.ino w.ino (sym f))) (none_has (is_wait_of w.client w.ino) l.waiters g.waits_not v h))
 
-  granted_demanded : (l : Locks) (r : LockRow) (x : RowDemand) → IsGranted w l → IsGranted w (with_demand r x l)
+  pub granted_demanded : (l : Locks) (r : LockRow) (x : RowDemand) → IsGranted w l → IsGranted w (with_demand r x l)
   unfolding demanded
   granted_demanded l r x g =
       record {

@@ -46,3 +46,11 @@ pub data EndsBy (w : Waiter) (received : Option Message) (ns : Names) (a : Autho
 -- the wait is still the first of its file, or it ended for one of these reasons
 abbrev pub GoesOnOrEnds : Waiter → Option Message → Names → Authority → Locks → Type 0
 GoesOnOrEnds w received ns a l = IsFirst w l ⊎ EndsBy w received ns a l
+
+-- the wait that the table has of its client for its file
+abbrev pub IsWaiting : Waiter → Locks → Type 0
+IsWaiting w l = wait_of l w.client w.ino ≡ Some w
+
+-- the wait goes on, first or not, or it ended for one of these reasons
+abbrev pub StaysOrEnds : Waiter → Option Message → Names → Authority → Locks → Type 0
+StaysOrEnds w received ns a l = IsWaiting w l ⊎ EndsBy w received ns a l

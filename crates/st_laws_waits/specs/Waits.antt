@@ -30,7 +30,7 @@ use Rattle.st_rules.specs.World.{World, clock_of, fresh_world, message_of, node_
 use Rattle.st_lemmas.specs.Lists.{Has}
 use Rattle.st_laws_waits.specs.Bounds.{AllBlocked, AllDemanded}
 use Rattle.st_laws_waits.specs.Chase.{IsFirst, answers_for}
-use Rattle.st_laws_waits.specs.Ends.{GoesOnOrEnds}
+use Rattle.st_laws_waits.specs.Ends.{GoesOnOrEnds, IsWaiting, StaysOrEnds}
 
 -- Ticks.
 
@@ -175,13 +175,22 @@ abbrev pub received : ServerId → World → Event → Option Message
 received s v (events.Deliver n) = received_in s (message_of v n)
 received s v e = None
 
--- A wait ends for a reason. If it is the first of its file before a step of a server that runs before and after it, then one of these holds: it is so after the
--- step; it was granted; its client is suspected, greeted in a later life or asked for the file again; or the file was removed.
+-- A wait ends for a reason. If it is the first of its file before a step of a server that runs before and after it, then one of these holds: it is so after
+-- the step; it was granted; its client is suspected, greeted in a later life or asked for the file again; or the file was removed.
 abbrev pub WaitsEndForAReason : Config → ServerId → Promise
 WaitsEndForAReason k s past x =
     (w : Waiter) (old new : ServerNode) → node_of x.before.world s ≡ Some old → old.running ≡ true → IsFirst w old.state.locks →
     node_of x.after.world s ≡ Some new → new.running ≡ true →
     GoesOnOrEnds w (received s x.before.world x.event) old.state.stable.names new.state.authority new.state.locks
+
+-- Every wait ends for a reason, the first of its file or not. If the server has it before a step and
+-- runs before and after it, then it has it after the step; or it was granted; its client is
+-- suspected, greeted in a later life or asked for the file in another mode; or the file was removed.
+abbrev pub EveryWaitEndsForAReason : Config → ServerId → Promise
+EveryWaitEndsForAReason k s past x =
+    (w : Waiter) (old new : ServerNode) → node_of x.before.world s ≡ Some old → old.running ≡ true → IsWaiting w old.state.locks →
+    node_of x.after.world s ≡ Some new → new.running ≡ true →
+    StaysOrEnds w (received s x.before.world x.event) old.state.stable.names new.state.authority new.state.locks
 
 -- the server runs
 pub record Runs (s : ServerId) (v : World) : Type 0 where

@@ -3,7 +3,8 @@
 #![tactic(auto)]
 
 ghost use Rattle.st_laws_waits.specs.Causes.{SuspicionsHaveACause};
-ghost use Rattle.st_laws_waits.specs.Waits.{DemandsAreAnswered, DemandsAreRepeated, GraceEnds, InEveryRun, InTickingRuns, LocksComeBack, LocksComeBackAfterStarts, WaitsEndForAReason};
+ghost use Rattle.st_laws_waits.specs.Queued.{QueuedClientsWait};
+ghost use Rattle.st_laws_waits.specs.Waits.{DemandsAreAnswered, DemandsAreRepeated, EveryWaitEndsForAReason, GraceEnds, InEveryRun, InTickingRuns, LocksComeBack, LocksComeBackAfterStarts, WaitsEndForAReason};
 
 /// In every run in which a server ticks in time: a demand of a client that isn't a suspect is
 /// answered within the demand time and a gap; a suspect is robbed within the steal wait and a gap;
@@ -35,6 +36,19 @@ pub fn locks_come_back_after_starts()
 /// or the server crashed.
 pub fn waits_end_for_a_reason()
     ensures { InEveryRun WaitsEndForAReason }
+{}
+
+/// In every run each wait, the first of its file or not, goes on or ends for one of these reasons.
+/// It isn't lost.
+pub fn every_wait_ends_for_a_reason()
+    ensures { InEveryRun EveryWaitEndsForAReason }
+{}
+
+/// In every run a client to which a server sends a new reply `queued` waits there in that mode or a
+/// higher one, or was granted the lock in the same event. From then on
+/// `every_wait_ends_for_a_reason` speaks of its wait.
+pub fn queued_clients_wait()
+    ensures { InEveryRun QueuedClientsWait }
 {}
 
 /// In every run a server that runs is in grace for less than the steal wait.
