@@ -133,6 +133,15 @@ def leave_fails():
     return story.settle()
 
 
+def leave_suspected():
+    """A client leaves while it still waits for a lock that no operation wants now. The lock is
+    granted before its next life greets, so the server suspects it for that greeting.
+    """
+    story = Story(clients=2).say("app c2 read 1:2 0").settle().hold("demand").say("app c1 write 1:2 0 1").settle()
+    story.say("adv 700", "tick c1").settle().say("app c1 leave 1").hold("hello").settle()
+    return story.hold().settle()
+
+
 def answered():
     """Two locks are demanded at once. The second demand comes again while its release waits after
     the first one, and is answered.
@@ -140,6 +149,15 @@ def answered():
     story = Story(clients=2).say("app c1 read 1:2 0").settle().say("app c1 read 1:3 0").settle().hold("ack")
     story.say("app c2 write 1:2 0 1").settle().say("app c2 write 1:3 0 2").settle().say("adv 60", "tick s1").settle()
     return story.hold().settle()
+
+
+def answer_late():
+    """Two trips take the demand time. A demand is answered as it arrives, and the tick of
+    the server comes before the answer, so the client is suspected.
+    """
+    story = Story(clients=2).say("app c1 read 1:2 0").settle().hold("demand", "demandseen", "released").say("app c2 write 1:2 0 1").settle()
+    story.say("adv 50").hold("demandseen", "released").settle()
+    return story.say("adv 50", "tick s1").hold().settle()
 
 
 def fresh():
@@ -175,8 +193,8 @@ def two_writers():
 
 STORIES = {
     "used-once": used_once, "room": room, "room-failed": room_failed, "give-back": give_back, "give-back-stuck": give_back_stuck, "leave": leave,
-    "leave-unsynced": leave_unsynced, "leave-fails": leave_fails, "answered": answered, "fresh-welcome": fresh, "run": run_of_pages,
-    "run-on-two-blocks": run_on_two_blocks, "two-writers": two_writers,
+    "leave-suspected": leave_suspected, "leave-unsynced": leave_unsynced, "leave-fails": leave_fails, "answered": answered,
+    "answer-late": answer_late, "fresh-welcome": fresh, "run": run_of_pages, "run-on-two-blocks": run_on_two_blocks, "two-writers": two_writers,
 }
 
 

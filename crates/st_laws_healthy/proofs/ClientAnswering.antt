@@ -31,7 +31,8 @@ use Rattle.st_laws_steps.specs.Client.Losses.{Fit}
 use Rattle.st_laws_waits.specs.Bounds.{RowsHaveSessions}
 use Rattle.st_laws_healthy.proofs.Answering.{Answered, Answering, IsComing, IsDemandOn, IsQueued, IsReleased, IsSeen, IsSeenOn, asked_known, has_served, rounds}
 use Rattle.st_laws_healthy.proofs.Answering.{rounds_up, session_known}
-use Rattle.st_laws_healthy.proofs.ClientStanding.{Middle, TalksOn}
+use Rattle.st_laws_healthy.proofs.ClientStanding.{Middle}
+use Rattle.st_laws_healthy.proofs.ClientTalks.{TalksOn}
 use Rattle.st_laws_healthy.proofs.Demanded.{HasAsked, HasQueued, Waits, held_says, release_of, unheld_waits}
 use Rattle.st_laws_healthy.proofs.Emptying.{NoneWaits}
 use Rattle.st_laws_healthy.proofs.Happening.{Brings, Deaf}

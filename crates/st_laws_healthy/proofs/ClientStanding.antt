@@ -2,17 +2,14 @@
 use Rattle.st_lemmas.proofs.Words
 use Words.{◌≡◌, ◌≢◌, ℕ, ◌+◌, ◌*◌, ◌≤◌, ◌<◌, ◌⊎◌, Bool, true, false, ◌==◌, List, [], ◌∷◌, ◌++◌, Option, Some, None, refl, sym, ap, ◌∙◌, subst, inl, inr, arith}
 use Words.{is_some, max, nat_lt, eq-eqb, ltb-false, ltb-true, Config, ClientId, Epoch, Life, ServerId, Stamp, Body, Message}
-use Words.{Output, ClientInput, Request, Session}
+use Words.{ClientInput, Request, Session}
 use Words.events
 use Words.bodies as bd
-use Words.outputs
 use Words.inputs
 use Words.seen
 use Words.ClientLease.{ClientLease}
-use Words.Client as cl
-use Words.ClientReplies as cr
 use Words.ClientState as cs
-use Words.ClientState.{Association, ClientSession, ClientState, Turn}
+use Words.ClientState.{Association, ClientSession}
 use Words.Dating as dating
 use Words.Keys.{server_node}
 use Words.Safety.{Step}
@@ -21,7 +18,7 @@ use Words.World.{World, numbered}
 use Words.Lists.{Has}
 use Words.Lookups.{or_left, some_is}
 use Words.Numbers.{numbered_has}
-use Words.Tables.{and_both, and_true, same_or_not}
+use Words.Tables.{and_both, same_or_not}
 use Words.Members.{has_left, has_right}
 use Words.Sessions.{session_of}
 use Words.Truth.{not_both}
@@ -29,23 +26,23 @@ use Rattle.std.proofs.Math.Nat.{le-max_left, le-max_right}
 use Rattle.st_laws_lasting.specs.Lasting.{client_clock}
 use Rattle.st_laws_leases.specs.Dates.Dates.{messages}
 use Rattle.st_laws_requests.specs.Cuts.Cuts.{Counts, Given, Numbers, Placed, SameBody, view}
-use Rattle.st_laws_steps.specs.Client.Losses.{Fit, is_ended}
+use Rattle.st_laws_steps.specs.Client.Losses.{is_ended}
 use Rattle.st_laws_healthy.specs.Healthy.{is_between}
-use Rattle.st_laws_healthy.proofs.Counting.{IsEnded, counted_ends}
+use Rattle.st_laws_healthy.proofs.Counting.{IsEnded}
 use Rattle.st_laws_healthy.proofs.Happening.{Brings, Deaf, Delivers}
-use Rattle.st_laws_healthy.proofs.Hearing.{Hears, IsReceived, Met, Unmet, counting_calm, hears, is_received, passed_by, received_from}
+use Rattle.st_laws_healthy.proofs.Hearing.{counting_calm}
 use Rattle.st_laws_healthy.proofs.Passing.{After, Again, Alike, Anew, IsPassed, ByGreeting, ByRequest, IsSentBy, Requested as Asked, SentBy, Still}
 use Rattle.st_laws_healthy.proofs.Queues.{Longer}
-use Rattle.st_laws_healthy.proofs.Receiving.{Ended, Follows, Kept, Received, follows_self, is_calm, received_is, tells_epoch}
+use Rattle.st_laws_healthy.proofs.Receiving.{Ended, Follows, Kept, Received, follows_self, is_calm, tells_epoch}
 use Rattle.st_laws_healthy.proofs.Replies.{counts_for, is_served}
 use Rattle.st_laws_healthy.proofs.Served.{From, Greets, IsAWelcome, IsAsked, IsBefore, IsCounted, IsEarlier, IsGood, IsKnown, IsLiving, IsOwn}
 use Rattle.st_laws_healthy.proofs.Served.{IsReplied, IsServed, IsTold, Requests, Sees, TellsEpoch, To, known_more, served_more, told_more}
-use Rattle.st_laws_healthy.proofs.Stepping.{IsHeard, IsLeft, IsNoMessage, TakesIn, Told, Walks, sends, walks}
 use Rattle.st_laws_healthy.proofs.Taking.{IsSeen, SawDemand}
 use Rattle.st_laws_healthy.proofs.Talking.{Greeted, GreetsAt, Hailed, HasSession, IsAsking, IsAsking2, IsCounting, IsGreeting, IsOnTrip, IsOutstanding}
 use Rattle.st_laws_healthy.proofs.Talking.{IsTooOld, Phase, Requested, Talks, WelcomesAt, delivered_among, delivered_is, fly, not_delivered}
-use Rattle.st_laws_healthy.proofs.Telling.{is_unasked}
+use Rattle.st_laws_healthy.proofs.Telling.{IsUnasked, is_unasked}
 use Rattle.st_laws_healthy.proofs.Trips.{Back, Begun, InTime, Out, Trip, flies_on, takes_off, trip_began, trip_ends}
+use Rattle.st_laws_healthy.proofs.Walking.{Hears, IsHeard, IsLeft, IsReceived, Meets, Met, Takes, Unmet, Walk, received_or_not}
 
 -- what nobody asked for condemns nothing, and tells of no epoch
 unasked_calm : (b : Body) → is_unasked b ≡ true → (is_calm b ≡ true) × (tells_epoch b ≡ false)
@@ -74,8 +71,8 @@ served_request (bd.Name op) e = refl
 served_request b e = cc
 
 -- A message that the step sent.
-pub record IsNew (c : ClientId) (x : Step) (ns : List Message) (now : ℕ) (out : List Output) (m : Message) : Type 0 where
-  pub among : Has (outputs.Send m) out
+pub record IsNew (c : ClientId) (x : Step) (ns : List Message) (now : ℕ) (Says : Message → Type 0) (m : Message) : Type 0 where
+  pub among : Says m
   pub number : ℕ
   pub sent : Has (seen.Sent number m) x.seen
   pub there : numbered ns number ≡ Some m
@@ -91,35 +88,20 @@ pub record Middle (z : ClientSession) (last : ℕ) (o : Option ClientSession) : 
   pub releases : Longer z.releases session.releases
   pub requests : (session.requests ≡ z.requests) ⊎ ((session.requests.asked ≡ None) × ((q : Request) × (z.requests.asked ≡ Some q) × (q.number ≤ last)))
 
--- What is known of an association after a step of the client, and which one it was before it.
-module _ (k : Config) (c : ClientId) (s : ServerId) (gap d : ℕ) (read : World → ℕ) (delay : ℕ) (past past2 : List Step) (ms ns : List Message) (n : ServerState)
-    (now : Stamp) (st : ClientState) (i : ClientInput) (fit : (a : Association) → Has a st.associations → Fit a)
-    (talks : (a : Association) → Has a st.associations → a.server ≡ s → (since : ℕ) × Talks k c s gap d read delay since past ms n now.0 a) where
-  pub record TalksOn (b : Association) : Type 0 where
-    pub was : Association
-    pub among : Has was st.associations
-    pub at_was : was.server ≡ s
-    pub walk : Walks st now i fit was b
-    pub lasts : is_ended st.config now was.session ≡ false
-    pub life : b.life ≡ was.life
-    pub middle : (z : ClientSession) → was.session ≡ Some z → Middle z (talks was among at_was).1.last walk.second.session
-    pub since : ℕ
-    pub same : (z v : ClientSession) → was.session ≡ Some z → b.session ≡ Some v → v.requests.next ≡ z.requests.next → since ≡ (talks was among at_was).0
-    pub known : Talks k c s gap d read delay since past2 ns n now.0 b
-    pub last_is : known.last ≡ (talks was among at_was).1.last
-
-module _ (k : Config) (c : ClientId) (s : ServerId) (gap d : ℕ) (read : World → ℕ) (delay : ℕ) (few : c.0 ≤ 16) where
+module _ (k : Config) (c : ClientId) (s : ServerId) (gap d : ℕ) (read : World → ℕ) (delay : ℕ) (few : c.0 ≤ 64) where
   abbrev cap : ℕ
   cap = max (k.renew + gap) (2 * d + 1)
 
   module _ (past : List Step) (x : Step) (w : World) (ns : List Message) (more : (m : Message) → Has m (messages w) → Has m ns)
       (keeps : (i : ℕ) (m : Message) → numbered (messages w) i ≡ Some m → numbered ns i ≡ Some m) (now : Stamp) (clock : client_clock c x.after.world ≡ now.0)
       (in_time : InTime (client_clock c) c s d past (messages w) now.0) (begun : Begun (client_clock c) c s d past now.0)
-      (now2 : ℕ) (clock2 : read x.after.world ≡ now2) (st : ClientState) (i : ClientInput)
-      (new : (m : Message) → Has m ns → Has m (messages w) ⊎ IsNew c x ns now.0 (cl.client_step st now i).out m)
-      (fit : (a : Association) → Has a st.associations → Fit a) (config : st.config ≡ k) (brings : Brings w x.event c.0 i)
-      (deaf_server : Deaf w x.event (server_node s))
-      (n : ServerState) where
+      (now2 : ℕ) (clock2 : read x.after.world ≡ now2) (kb : Config) (i : ClientInput) (Says : Message → Type 0)
+      (new : (m : Message) → Has m ns → Has m (messages w) ⊎ IsNew c x ns now.0 Says m) (brings : Brings w x.event c.0 i)
+      (deaf_server : Deaf w x.event (server_node s)) (n : ServerState) where
+    -- what becomes of an association
+    abbrev pub W : Association → Association → Type 0
+    W a b = Walk kb k.lease now i a b
+
     abbrev ms : List Message
     ms = messages w
 
@@ -133,7 +115,7 @@ module _ (k : Config) (c : ClientId) (s : ServerId) (gap d : ℕ) (read : World 
     old_from : (m : Message) → Has m ns → From c s m → Has m ms
     old_from m h f = go (new m h)
       where
-        go : Has m ms ⊎ IsNew c x ns now.0 (cl.client_step st now i).out m → Has m ms
+        go : Has m ms ⊎ IsNew c x ns now.0 Says m → Has m ms
         go (inl j) = j
         go (inr z) = let y = z.from in let q = f.from in absurd (omega (arith, y, q, few))
 
@@ -156,10 +138,10 @@ module _ (k : Config) (c : ClientId) (s : ServerId) (gap d : ℕ) (read : World 
         go (inr ne) = inr (λ e. ne (number_is (sym b.0.event ∙ e)))
 
     -- A lease that lasts isn't lost.
-    lasts_at : (a b : Association) (walk : Walks st now i fit a b) → is_ended st.config now a.session ≡ false → walk.first ≡ a
-    lasts_at a b walk ongoing = sym (walk.loses.lasts ongoing)
+    lasts_at : (a b : Association) (walk : W a b) → is_ended kb now a.session ≡ false → walk.first ≡ a
+    lasts_at a b walk ongoing = walk.lasts ongoing
 
-    module _ (since : ℕ) (a b : Association) (walk : Walks st now i fit a b) (ongoing : is_ended st.config now a.session ≡ false) (at : a.server ≡ s)
+    module _ (since : ℕ) (a b : Association) (walk : W a b) (ongoing : is_ended kb now a.session ≡ false) (at : a.server ≡ s)
         (t : Talks k c s gap d read delay since past ms n now.0 a)
         (young : (z : ClientSession) → a.session ≡ Some z → z.lease.condemned ≡ false → z.requests.asked ≡ None → now.0 < z.lease.date.0 + k.renew + gap)
         (numbers : Numbers (λ m. Has m ms) c s a.life.0 (view a.session)) (numbers2 : Numbers (λ m. Has m ns) c s a.life.0 (view b.session)) where
@@ -195,7 +177,7 @@ module _ (k : Config) (c : ClientId) (s : ServerId) (gap d : ℕ) (read : World 
           }
 
       -- What the message that is heard may be: one that the server sent.
-      module _ (m : Message) (is : i ≡ inputs.Control m) (tn : Turn) (here : tn.here ≡ a) (received : IsReceived tn now m.header) where
+      module _ (m : Message) (is : i ≡ inputs.Control m) (received : IsReceived a now m.header) where
         its : Delivers w x.event m × (m.header.to ≡ c.0)
         its = subst (Brings w x.event c.0) is brings
 
@@ -203,10 +185,10 @@ module _ (k : Config) (c : ClientId) (s : ServerId) (gap d : ℕ) (read : World 
         among = delivered_among k c s gap d past x w ns more keeps m its.0
 
         way : From c s m
-        way = record { from = received.from ∙ ap (λ (y : Association). server_node y.server) here ∙ ap (λ (y : ServerId). server_node y) at; to = its.1 }
+        way = record { from = received.from ∙ ap (λ (y : ServerId). server_node y) at; to = its.1 }
 
         present : m.header.life ≡ life
-        present = received.life ∙ ap (λ (y : Association). y.life.0) here
+        present = received.life
 
         told : IsTold c s ms n.sessions life epoch t.last m
         told = t.told m among way
@@ -292,7 +274,7 @@ module _ (k : Config) (c : ClientId) (s : ServerId) (gap d : ℕ) (read : World 
             IsAsking k c s gap d life epoch q.number q.body m → o.from ≤ m.header.stamp
         stamps q o served m h y = go (new m h)
           where
-            go : Has m ms ⊎ IsNew c x ns now.0 (cl.client_step st now i).out m → o.from ≤ m.header.stamp
+            go : Has m ms ⊎ IsNew c x ns now.0 Says m → o.from ≤ m.header.stamp
             go (inl j) = o.stamps m j y
             go (inr j) =
                 let v = j.stamp (subst (λ b. dating.is_request b ≡ true) (sym y.says) (served_request q.body served)) in
@@ -405,12 +387,9 @@ module _ (k : Config) (c : ClientId) (s : ServerId) (gap d : ℕ) (read : World 
                 omega (arith, first, over, j)
 
         -- The input.
-        heard : (m : Message) → i ≡ inputs.Control m → (tn : Turn) → tn.here ≡ a → Held (cr.receive_at now m.header m.body tn).here.session
-        heard m is tn here = go (cr.is_received tn now m.header) refl
+        heard : (m : Message) → i ≡ inputs.Control m → Hears k.lease now m a walk.second → Held walk.second.session
+        heard m is hears = go (received_or_not a now m.header)
           where
-            there : tn.here.session ≡ Some z
-            there = ap (λ (y : Association). y.session) here ∙ with_it
-
             plain : (q : Request) → z.requests.asked ≡ Some q → cs.reasserts q.body ≡ false
             plain q e = served_plain q.body (asking q e).served
 
@@ -425,16 +404,16 @@ module _ (k : Config) (c : ClientId) (s : ServerId) (gap d : ℕ) (read : World 
                 go (inl e) = inl (same (sym is ∙ e))
                 go (inr ne) = inr ne
 
-            go : (b : Bool) → cr.is_received tn now m.header ≡ b → Held (cr.receive_at now m.header m.body tn).here.session
-            go false r =
-                subst (λ (u : Turn). Held u.here.session) (sym (passed_by tn now m.header m.body r))
-                (same_held tn.here.session (subst (Follows z) (sym there) (follows_self z)) (λ q e f y g v. undelivered q e f y g v (only f y g v.way.to)))
+            go : IsReceived a now m.header ⊎ (IsReceived a now m.header → ⊥) → Held walk.second.session
+            go (inr unheard) =
+                same_held walk.second.session (subst (Follows z) (sym (hears.passes unheard ∙ with_it)) (follows_self z))
+                (λ q e f y g v. undelivered q e f y g v (only f y g v.way.to))
               where
                 undelivered : (q : Request) → z.requests.asked ≡ Some q → (f : ℕ) (y : Message) → numbered ms f ≡ Some y →
                     IsCounting k c s gap d life epoch q.number q.body y → (m ≡ y) ⊎ (x.event ≢ events.Deliver f) →
                     x.event ≢ events.Deliver f
                 undelivered q e f y g v (inr ne) = ne
-                undelivered q e f y g v (inl same) = absurd (not_both (cr.is_received tn now m.header) (is_received tn now m.header (in_place q e v same)) r)
+                undelivered q e f y g v (inl same) = absurd (unheard (in_place q e v same))
                   where
                     past_stamp : (q : Request) → z.requests.asked ≡ Some q → IsCounting k c s gap d life epoch q.number q.body y → m ≡ y →
                         m.header.stamp ≤ now.0
@@ -442,42 +421,38 @@ module _ (k : Config) (c : ClientId) (s : ServerId) (gap d : ℕ) (read : World 
                         (λ (u : Message). u.header.stamp) same in omega (arith, l, j)
 
                     in_place : (q : Request) → z.requests.asked ≡ Some q → IsCounting k c s gap d life epoch q.number q.body y → m ≡ y →
-                        IsReceived tn now m.header
+                        IsReceived a now m.header
                     in_place q e v same =
                         record {
-                          from = ap (λ (u : Message). u.header.from) same ∙ v.way.from ∙ ap (λ (u : ServerId). server_node u) (sym at) ∙ ap
-                              (λ (u : Association). server_node u.server) (sym here);
-                          life = ap (λ (u : Message). u.header.life) same ∙ v.of_life ∙ ap (λ (u : Association). u.life.0) (sym here);
+                          from = ap (λ (u : Message). u.header.from) same ∙ v.way.from ∙ ap (λ (u : ServerId). server_node u) (sym at);
+                          life = ap (λ (u : Message). u.header.life) same ∙ v.of_life;
                           stamp = past_stamp q e v same;
                         }
-            go true r = by (received_is tn z now m.header there p.sound plain m.body quiet.1 quiet.0)
+            go (inl got) = by (hears.received z with_it p.sound plain quiet.1 quiet.0)
               where
-                got : IsReceived tn now m.header
-                got = received_from tn now m.header r
-
                 quiet : (is_calm m.body ≡ true) × (tells_epoch m.body ≡ true → m.header.epoch ≤ z.epoch.0)
-                quiet = calm m (told m is tn here got) (present m is tn here got)
+                quiet = calm m (told m is got) (present m is got)
 
-                by : Received z m.header m.body (cr.receive_at now m.header m.body tn).here.session → Held (cr.receive_at now m.header m.body tn).here.session
-                by (Ended q e number counts ended) = ended_held m (told m is tn here got) (present m is tn here got) q e number counts
-                    (cr.receive_at now m.header m.body tn).here.session ended
+                by : Received z m.header m.body walk.second.session → Held walk.second.session
+                by (Ended q e number counts ended) = ended_held m (told m is got) (present m is got) q e number counts
+                    walk.second.session ended
                 by (Kept f) = kept z.requests.asked refl
                   where
-                    unasked : z.requests.asked ≡ None → Held (cr.receive_at now m.header m.body tn).here.session
-                    unasked e = same_held (cr.receive_at now m.header m.body tn).here.session f (λ q g. absurd (no (sym e ∙ g)))
+                    unasked : z.requests.asked ≡ None → Held walk.second.session
+                    unasked e = same_held walk.second.session f (λ q g. absurd (no (sym e ∙ g)))
                       where
                         no : {q : Request} → ◌≡◌ {A = Option Request} None (Some q) → ⊥
                         no v = cc
 
                     -- if the reply is this message, it ends the request
-                    kept : (o : Option Request) → z.requests.asked ≡ o → Held (cr.receive_at now m.header m.body tn).here.session
+                    kept : (o : Option Request) → z.requests.asked ≡ o → Held walk.second.session
                     kept None e = unasked e
                     kept (Some q) e = decide (counts_for q.body m.body) refl (same_or_not m.header.number q.number)
                       where
                         others : ((y : Message) → IsCounting k c s gap d life epoch q.number q.body y → m ≡ y → ⊥) →
-                            Held (cr.receive_at now m.header m.body tn).here.session
+                            Held walk.second.session
                         others never =
-                            same_held (cr.receive_at now m.header m.body tn).here.session f
+                            same_held walk.second.session f
                             (λ q2 e2 g y h v. either y g (subst (λ (o : Request). IsCounting k c s gap d life epoch o.number o.body y) (some_is (sym e2 ∙ e))
                             v) (only g y h v.way.to))
                           where
@@ -487,7 +462,7 @@ module _ (k : Config) (c : ClientId) (s : ServerId) (gap d : ℕ) (read : World 
                             either y g v (inr ne) = ne
 
                         decide : (b : Bool) → counts_for q.body m.body ≡ b → (m.header.number ≡ q.number) ⊎ (m.header.number ≢ q.number) →
-                            Held (cr.receive_at now m.header m.body tn).here.session
+                            Held walk.second.session
                         decide false g number = others (λ y v same. not_both (counts_for q.body m.body)
                             (ap (λ (u : Message). counts_for q.body u.body) same ∙ v.counts) g)
                         decide true g (inr ne) = others (λ y v same. ne (ap (λ (u : Message). u.header.number) same ∙ v.under))
@@ -496,33 +471,35 @@ module _ (k : Config) (c : ClientId) (s : ServerId) (gap d : ℕ) (read : World 
                             pos2 : 1 ≤ m.header.number
                             pos2 = let y = given q e in omega (arith, y, number)
 
-                            in_epoch : (m.header.epoch ≡ epoch) ⊎ (m.header.epoch ≢ epoch) → Held (cr.receive_at now m.header m.body tn).here.session
+                            in_epoch : (m.header.epoch ≡ epoch) ⊎ (m.header.epoch ≢ epoch) → Held walk.second.session
                             in_epoch (inr ne) = others (λ y v same. ne (ap (λ (u : Message). u.header.epoch) same ∙ v.of_epoch))
                             in_epoch (inl same) =
-                                ended_held m (told m is tn here got) (present m is tn here got) q e (sym number) g
-                                (cr.receive_at now m.header m.body tn).here.session
-                                (counted_ends tn z now m.header q p.sound e (sym number) (plain q e) m.body there r (same ∙ sym p.epoch_is) pos2 g)
+                                ended_held m (told m is got) (present m is got) q e (sym number) g
+                                walk.second.session
+                                (hears.counted z q with_it p.sound e (sym number) (plain q e) got (same ∙ sym p.epoch_is) pos2 g)
 
         -- After the input.
-        second_held : TakesIn st.config now i walk.first walk.second → Held walk.second.session
+        second_held : Takes k.lease now i walk.first walk.second → Held walk.second.session
         second_held (IsLeft quiet server l g alike) =
             same_held walk.second.session (subst (λ o. Alike o walk.second.session) (ap (λ (y : Association). y.session) lasts ∙ with_it) alike)
-            (λ q e f y h v. by q f y h v (brought i brings f y h v.way.to))
+            (λ q e f y h v. by q e f y h v (brought i brings f y h v.way.to))
           where
-            by : (q : Request) (f : ℕ) (y : Message) → numbered ms f ≡ Some y → IsCounting k c s gap d life epoch q.number q.body y →
-                (i ≡ inputs.Control y) ⊎ (x.event ≢ events.Deliver f) → x.event ≢ events.Deliver f
-            by q f y h v (inl is) = absurd (subst IsNoMessage is quiet)
-            by q f y h v (inr ne) = ne
-        second_held (IsHeard tn m is kb here there sv lf) = subst (λ (y : Association). Held y.session) (sym there) (heard m is tn (here ∙ lasts))
+            by : (q : Request) → z.requests.asked ≡ Some q → (f : ℕ) (y : Message) → numbered ms f ≡ Some y →
+                IsCounting k c s gap d life epoch q.number q.body y → (i ≡ inputs.Control y) ⊎ (x.event ≢ events.Deliver f) → x.event ≢ events.Deliver f
+            by q e f y h v (inl is) =
+                let u = quiet y is (v.of_life ∙ ap (λ (r : Association). r.life.0) (sym lasts)) in
+                absurd (let o = u.number in let g = given q e in let j = v.under in omega (arith, o, g, j))
+            by q e f y h v (inr ne) = ne
+        second_held (IsHeard m is hears sv lf) = heard m is (subst (λ (y : Association). Hears k.lease now m y walk.second) lasts hears)
 
       -- The passes.
       -- a request that was not there before is new
       new_request : (q : ℕ) → ((m : Message) → Has m ms → To c s m → m.header.life ≡ life → m.header.epoch ≡ epoch → m.header.number ≡ q → ⊥) →
           (m : Message) → Has m ns → To c s m → m.header.life ≡ life →
-          m.header.epoch ≡ epoch → m.header.number ≡ q → IsNew c x ns now.0 (cl.client_step st now i).out m
+          m.header.epoch ≡ epoch → m.header.number ≡ q → IsNew c x ns now.0 Says m
       new_request q none m h y l e u = go (new m h)
         where
-          go : Has m ms ⊎ IsNew c x ns now.0 (cl.client_step st now i).out m → IsNew c x ns now.0 (cl.client_step st now i).out m
+          go : Has m ms ⊎ IsNew c x ns now.0 Says m → IsNew c x ns now.0 Says m
           go (inl j) = absurd (none m j y l e u)
           go (inr j) = j
 
@@ -621,7 +598,7 @@ module _ (k : Config) (c : ClientId) (s : ServerId) (gap d : ℕ) (read : World 
                 way0 : To c s m0
                 way0 = record { from = sent.2.between.0; to = sent.2.between.1 }
 
-                is_new : IsNew c x ns now.0 (cl.client_step st now i).out m0
+                is_new : IsNew c x ns now.0 Says m0
                 is_new = new_request u.requests.next none m0 sent.1 way0 sent.2.of_life sent.2.of_epoch sent.2.under
 
                 asks0 : IsAsking k c s gap d life epoch u.requests.next body m0
@@ -687,7 +664,7 @@ module _ (k : Config) (c : ClientId) (s : ServerId) (gap d : ℕ) (read : World 
           go : Held z e p walk.second.session → Passed z.requests.next
           go y =
               subst Passed y.next
-              (passed y.session y.holds y.session.requests.next (none y.session y.next) y.ready (subst (λ o. After now o b.session) y.is walk.works.session))
+              (passed y.session y.holds y.session.requests.next (none y.session y.next) y.ready (subst (λ o. After now o b.session) y.is walk.session))
 
       -- what the input leaves of it
       middle : (z : ClientSession) → a.session ≡ Some z → Middle z t.last walk.second.session
@@ -703,7 +680,7 @@ module _ (k : Config) (c : ClientId) (s : ServerId) (gap d : ℕ) (read : World 
         where
           go : Held z e (subst (Phase k c s gap d read delay since past ms n.sessions life epoch t.last) e t.phase) walk.second.session →
               (y : ClientSession) × (b.session ≡ Some y)
-          go y = let p = subst (λ o. After now o b.session) y.is walk.works.session in (p.session, p.is)
+          go y = let p = subst (λ o. After now o b.session) y.is walk.session in (p.session, p.is)
 
       -- Without a session before.
       module _ (without : a.session ≡ None) where
@@ -772,11 +749,11 @@ module _ (k : Config) (c : ClientId) (s : ServerId) (gap d : ℕ) (read : World 
         hailed_on : (stamp : ℕ) → ((f : ℕ) (y : Message) → numbered ms f ≡ Some y → WelcomesAt k c s gap d life stamp y →
             (x.event ≢ events.Deliver f) ⊎ (stamp + k.lease ≤ client_clock c x.after.world)) →
             Hailed k c s gap d past ms life stamp → Hailed k c s gap d past2 ns life stamp
-        hailed_on stamp heard (IsTooOld y h l) = IsTooOld y (has_left past (x ∷ []) y h) l
-        hailed_on stamp heard (IsOnTrip (Out f)) =
+        hailed_on stamp delivered (IsTooOld y h l) = IsTooOld y (has_left past (x ∷ []) y h) l
+        hailed_on stamp delivered (IsOnTrip (Out f)) =
             IsOnTrip (Out (fly k c s gap d past x w ns more keeps (client_clock c) d (GreetsAt k c s gap d life stamp) (GreetsAt k c s gap d life stamp)
             stamp (server_node s) f (λ y. y) f.like.is.way.to deaf_server))
-        hailed_on stamp heard (IsOnTrip (Back y l r f)) = go (heard f.number f.message f.there f.like)
+        hailed_on stamp delivered (IsOnTrip (Back y l r f)) = go (delivered f.number f.message f.there f.like)
           where
             go : (x.event ≢ events.Deliver f.number) ⊎ (stamp + k.lease ≤ client_clock c x.after.world) → Hailed k c s gap d past2 ns life stamp
             go (inl ne) =
@@ -784,18 +761,12 @@ module _ (k : Config) (c : ClientId) (s : ServerId) (gap d : ℕ) (read : World 
                 (WelcomesAt k c s gap d life stamp) y f (λ y. y) ne))
             go (inr old) = IsTooOld x (has_right past (x ∷ []) x (inl refl)) old
 
-        heard_none : (m : Message) → i ≡ inputs.Control m → (tn : Turn) → tn.config ≡ k → tn.here ≡ a →
-            walk.second ≡ (cr.receive_at now m.header m.body tn).here → Second walk.second.session
-        heard_none m is tn kb here there = by (hears tn now m.header m.body (ap (λ (y : Association). y.session) here ∙ without))
+        heard_none : (m : Message) → i ≡ inputs.Control m → Meets k.lease now m a walk.second → Second walk.second.session
+        heard_none m is meets = by meets
           where
-            second_is : (cr.receive_at now m.header m.body tn).here ≡ walk.second
-            second_is = sym there
-
-            by : Hears tn now m.header m.body (cr.receive_at now m.header m.body tn) → Second walk.second.session
-            by (Unmet same untimely) =
-                IsNone (ap (λ (y : Association). y.session) (there ∙ same ∙ here) ∙ without)
-                (λ e. ap (λ (y : Association). is_some y.greeting) (there ∙ same ∙ here) ∙ e)
-                (λ stamp. hailed_on stamp (λ f y h v. unheard stamp f y h v (brought i brings f y h v.is.way.to)))
+            by : Meets k.lease now m a walk.second → Second walk.second.session
+            by (Unmet none same untimely) =
+                IsNone none (λ e. ap is_some same ∙ e) (λ stamp. hailed_on stamp (λ f y h v. unheard stamp f y h v (brought i brings f y h v.is.way.to)))
               where
                 same_message : (y : Message) → i ≡ inputs.Control y → m ≡ y
                 same_message y e = same2 (sym is ∙ e)
@@ -806,7 +777,7 @@ module _ (k : Config) (c : ClientId) (s : ServerId) (gap d : ℕ) (read : World 
                 unheard : (stamp f : ℕ) (y : Message) → numbered ms f ≡ Some y → WelcomesAt k c s gap d life stamp y →
                     (i ≡ inputs.Control y) ⊎ (x.event ≢ events.Deliver f) → (x.event ≢ events.Deliver f) ⊎ (stamp + k.lease ≤ client_clock c x.after.world)
                 unheard stamp f y h v (inr ne) = inl ne
-                unheard stamp f y h v (inl e) = inr (late (nat_lt now.0 (m.header.stamp + tn.config.lease)) refl)
+                unheard stamp f y h v (inl e) = inr (late (nat_lt now.0 (m.header.stamp + k.lease)) refl)
                   where
                     it : m ≡ y
                     it = same_message y e
@@ -814,46 +785,37 @@ module _ (k : Config) (c : ClientId) (s : ServerId) (gap d : ℕ) (read : World 
                     z : Answers y
                     z = answers y (t.told y (numbered_has ms f y h) v.is.way) v.is.of_life v.is.body
 
-                    got : IsReceived tn now m.header
+                    got : IsReceived a now m.header
                     got =
                         record {
-                          from = ap (λ (u : Message). u.header.from) it ∙ v.is.way.from ∙ ap (λ (u : ServerId). server_node u) (sym at) ∙ ap
-                              (λ (u : Association). server_node u.server) (sym here);
-                          life = ap (λ (u : Message). u.header.life) it ∙ v.is.of_life ∙ ap (λ (u : Association). u.life.0) (sym here);
+                          from = ap (λ (u : Message). u.header.from) it ∙ v.is.way.from ∙ ap (λ (u : ServerId). server_node u) (sym at);
+                          life = ap (λ (u : Message). u.header.life) it ∙ v.is.of_life;
                           stamp = let l = z.not_later in let j = ap (λ (u : Message). u.header.stamp) it in omega (arith, l, j);
                         }
 
-                    late : (b : Bool) → nat_lt now.0 (m.header.stamp + tn.config.lease) ≡ b → stamp + k.lease ≤ client_clock c x.after.world
+                    late : (b : Bool) → nat_lt now.0 (m.header.stamp + k.lease) ≡ b → stamp + k.lease ≤ client_clock c x.after.world
                     late true q =
-                        absurd (not_both (cr.is_timely tn now (record { 0 = m.header.stamp }))
-                        (and_both (is_some tn.here.greeting) (nat_lt now.0 (m.header.stamp + tn.config.lease))
-                        (ap (λ (u : Association). is_some u.greeting) here ∙ t.greets without z.greeting z.among z.is) q)
-                        (untimely (is_received tn now m.header got) (ap (λ (u : Message). u.body) it ∙ v.is.body)))
+                        absurd (untimely got (ap (λ (u : Message). u.body) it ∙ v.is.body) (t.greets without z.greeting z.among z.is)
+                        (ltb-true now.0 (m.header.stamp + k.lease) q))
                     late false q =
-                        let l = ltb-false now.0 (m.header.stamp + tn.config.lease) q in
+                        let l = ltb-false now.0 (m.header.stamp + k.lease) q in
                         let j = ap (λ (u : Message). u.header.stamp) it in
                         let g = v.at in
-                        let o = ap (λ (kb : Config). kb.lease) kb in
-                        omega (arith, l, j, g, o, clock)
-            by (Met r e timely server l session) =
-                IsBegun u (ap (λ (y : Association). y.session) there ∙ session)
+                        omega (arith, l, j, g, clock)
+            by (Met u got e timely session begins) =
+                IsBegun u session
                 (record {
-                  epoch_is = z.epoch_is;
-                  settled = refl;
-                  sound = refl;
+                  epoch_is = begins.epoch ∙ z.epoch_is;
+                  settled = begins.settled;
+                  sound = begins.sound;
                   served = served_more c s ms ns more n.sessions life epoch t.last z.served;
-                  below = let q = before.1 in omega (arith, q);
-                  requests = omega arith;
-                }) (λ f. young_from (before.0 z.greeting z.among z.is)) refl
+                  below = let q = before.1 in let o = begins.next in omega (arith, q, o);
+                  requests = subst (Requested k c s gap d read delay since past2 ns life epoch t.last u.lease.date.0 u.requests.next) (sym begins.rests)
+                      (let o = begins.next in omega (arith, o));
+                }) (λ f. let y = young_from (before.0 z.greeting z.among z.is) in let o = begins.date in omega (arith, y, o)) begins.next
               where
-                u : ClientSession
-                u = cr.new_session (record { 0 = m.header.epoch }) (record { 0 = m.header.stamp })
-
-                got : IsReceived tn now m.header
-                got = received_from tn now m.header r
-
                 z : Answers m
-                z = answers m (told m is tn here got) (present m is tn here got) e
+                z = answers m (told m is got) (present m is got) e
 
                 young_from : Hailed k c s gap d past ms life z.greeting.header.stamp → now.0 < m.header.stamp + cap
                 young_from (IsOnTrip trip) =
@@ -864,32 +826,32 @@ module _ (k : Config) (c : ClientId) (s : ServerId) (gap d : ℕ) (read : World 
                     omega (arith, over, j, q)
                 young_from (IsTooOld y h old) =
                     let b = begun y h in
-                    let q = ltb-true now.0 (m.header.stamp + tn.config.lease)
-                    (and_true (is_some tn.here.greeting) (nat_lt now.0 (m.header.stamp + tn.config.lease)) timely).1 in
                     let j = z.stamp in
-                    let o = ap (λ (kb : Config). kb.lease) kb in
-                    absurd (omega (arith, old, b, q, j, o))
+                    absurd (omega (arith, old, b, timely, j))
 
-        second : TakesIn st.config now i walk.first walk.second → Second walk.second.session
+        second : Takes k.lease now i walk.first walk.second → Second walk.second.session
         second (IsLeft quiet server l g alike) =
             IsNone (subst (λ o. Alike o walk.second.session) (ap (λ (y : Association). y.session) lasts ∙ without) alike)
             (λ e. ap is_some (g ∙ ap (λ (y : Association). y.greeting) lasts) ∙ e)
-            (λ stamp. hailed_on stamp (λ f y h v. inl (by f y (brought i brings f y h v.is.way.to))))
+            (λ stamp. hailed_on stamp (λ f y h v. inl (by stamp f y v (brought i brings f y h v.is.way.to))))
           where
-            by : (f : ℕ) (y : Message) → (i ≡ inputs.Control y) ⊎ (x.event ≢ events.Deliver f) → x.event ≢ events.Deliver f
-            by f y (inl is) = absurd (subst IsNoMessage is quiet)
-            by f y (inr ne) = ne
-        second (IsHeard tn m is kb here there sv lf) = heard_none m is tn (kb ∙ config) (here ∙ lasts) there
+            by : (stamp f : ℕ) (y : Message) → WelcomesAt k c s gap d life stamp y → (i ≡ inputs.Control y) ⊎ (x.event ≢ events.Deliver f) →
+                x.event ≢ events.Deliver f
+            by stamp f y v (inl is) =
+                let u = quiet y is (v.is.of_life ∙ ap (λ (r : Association). r.life.0) (sym lasts)) in
+                absurd (not_both (is_unasked y.body) u.body (ap is_unasked v.is.body))
+            by stamp f y v (inr ne) = ne
+        second (IsHeard m is hears sv lf) = heard_none m is ((subst (λ (y : Association). Hears k.lease now m y walk.second) lasts hears).meets without)
 
         -- a new greeting has the present stamp
-        greets_now : (m : Message) → IsNew c x ns now.0 (cl.client_step st now i).out m → IsGreeting k c s gap d life m → m.header.stamp ≡ now.0
+        greets_now : (m : Message) → IsNew c x ns now.0 Says m → IsGreeting k c s gap d life m → m.header.stamp ≡ now.0
         greets_now m z g = z.stamp (ap dating.is_request g.body)
 
         greeted2 : Greeted k c s gap d past ms life → ((stamp : ℕ) → Hailed k c s gap d past ms life stamp → Hailed k c s gap d past2 ns life stamp) →
             Greeted k c s gap d past2 ns life
         greeted2 f on m h g = by (new m h)
           where
-            by : Has m ms ⊎ IsNew c x ns now.0 (cl.client_step st now i).out m → Hailed k c s gap d past2 ns life m.header.stamp
+            by : Has m ms ⊎ IsNew c x ns now.0 Says m → Hailed k c s gap d past2 ns life m.header.stamp
             by (inl j) = on m.header.stamp (f m j g)
             by (inr z) =
                 IsOnTrip (subst (Trip (client_clock c) c s d past2 ns (GreetsAt k c s gap d life m.header.stamp)
@@ -904,12 +866,12 @@ module _ (k : Config) (c : ClientId) (s : ServerId) (gap d : ℕ) (read : World 
             go : Second walk.second.session → (since2 : ℕ) × Phase k c s gap d read delay since2 past2 ns n.sessions life epoch t.last b.session
             go (IsNone e g on) = (
               since,
-              subst (Phase k c s gap d read delay since past2 ns n.sessions life epoch t.last) (sym (subst (λ o. After now o b.session) e walk.works.session))
+              subst (Phase k c s gap d read delay since past2 ns n.sessions life epoch t.last) (sym (subst (λ o. After now o b.session) e walk.session))
                   (greeted2 before.0 on, before.1),
             )
             go (IsBegun u e held ready q) =
                 let z = passed u held u.requests.next (λ m h y l ep nu. let z = no_requests m h y l in omega (arith, z, nu, q)) ready
-                (subst (λ o. After now o b.session) e walk.works.session) in
+                (subst (λ o. After now o b.session) e walk.session) in
                 (z.since2, z.phase)
 
         -- whoever greeted remembers it, until its session begins
@@ -917,8 +879,8 @@ module _ (k : Config) (c : ClientId) (s : ServerId) (gap d : ℕ) (read : World 
         greets_on e g = go (second walk.takes)
           where
             go : Second walk.second.session → is_some b.greeting ≡ true
-            go (IsNone f on trip) = walk.works.greeting (on g)
-            go (IsBegun u f held ready q) = absurd (no ((subst (λ o. After now o b.session) f walk.works.session).is) e)
+            go (IsNone f on trip) = walk.greeting (on g)
+            go (IsBegun u f held ready q) = absurd (no ((subst (λ o. After now o b.session) f walk.session).is) e)
               where
                 no : {y : ClientSession} → b.session ≡ Some y → b.session ≡ None → ⊥
                 no p q = no2 (sym q ∙ p)
@@ -929,26 +891,27 @@ module _ (k : Config) (c : ClientId) (s : ServerId) (gap d : ℕ) (read : World 
     -- Where an association with the server comes from: one whose lease lasts, as it was before the step; or one whose lease is over, emptied.
     pub record Source (b : Association) : Type 0 where
       pub from : Association
-      pub walk : Walks st now i fit from b
-      pub ongoing : is_ended st.config now from.session ≡ false
+      pub walk : W from b
+      pub ongoing : is_ended kb now from.session ≡ false
       pub at : from.server ≡ s
       pub since : ℕ
       pub talk : Talks k c s gap d read delay since past ms n now.0 from
       pub young : (z : ClientSession) → from.session ≡ Some z → z.lease.condemned ≡ false → z.requests.asked ≡ None → now.0 < z.lease.date.0 + k.renew + gap
       pub numbers : Numbers (λ m. Has m ms) c s from.life.0 (view from.session)
 
-    taken : (f v : Association) → TakesIn st.config now i f v → (v.server ≡ f.server) × (v.life ≡ f.life)
+    taken : (f v : Association) → Takes k.lease now i f v → (v.server ≡ f.server) × (v.life ≡ f.life)
     taken f v (IsLeft quiet sv l g alike) = (sv, l)
-    taken f v (IsHeard tn m is kb here there sv lf) = (sv, lf)
+    taken f v (IsHeard m is hears sv lf) = (sv, lf)
 
-    before_at : (a b : Association) → Walks st now i fit a b → b.server ≡ s → a.server ≡ s
-    before_at a b walk at_b = sym (walk.works.server ∙ (taken walk.first walk.second walk.takes).0 ∙ sym walk.loses.server) ∙ at_b
+    pub before_at : (a b : Association) → W a b → b.server ≡ s → a.server ≡ s
+    before_at a b walk at_b = sym (walk.server ∙ (taken walk.first walk.second walk.takes).0 ∙ walk.stays) ∙ at_b
 
-    -- All associations with the server.
-    module _ (sources : (b : Association) → Has b (cl.client_step st now i).state.associations → b.server ≡ s → Source b)
-        (numbers2 : (b : Association) → Has b (cl.client_step st now i).state.associations → Numbers (λ m. Has m ns) c b.server b.life.0 (view b.session))
-        (once : (a b : Association) → Has a (cl.client_step st now i).state.associations → Has b (cl.client_step st now i).state.associations →
-        a.server.0 ≡ b.server.0 → a ≡ b) where
+    -- All associations with the server: those after the step, and why it sent its messages.
+    module _ (after : List Association)
+        (sends : (m : Message) → Says m → IsSeen m.body ⊎ ((r : Association) × Has r after × IsSentBy r m))
+        (sources : (b : Association) → Has b after → b.server ≡ s → Source b)
+        (numbers2 : (b : Association) → Has b after → b.server ≡ s → Numbers (λ m. Has m ns) c s b.life.0 (view b.session))
+        (once : (a b : Association) → Has a after → Has b after → a.server.0 ≡ b.server.0 → a ≡ b) where
       -- what is known of one
       record Phased (b : Association) (o : Source b) : Type 0 where
         life : b.life ≡ o.from.life
@@ -961,7 +924,7 @@ module _ (k : Config) (c : ClientId) (s : ServerId) (gap d : ℕ) (read : World 
         greets : b.session ≡ None → (m : Message) → Has m ms → IsGreeting k c s gap d b.life.0 m → is_some b.greeting ≡ true
         phase : Phase k c s gap d read delay since past2 ns n.sessions b.life.0 epoch o.talk.last b.session
 
-      phased : (b : Association) (h : Has b (cl.client_step st now i).state.associations) (at_b : b.server ≡ s) → Phased b (sources b h at_b)
+      phased : (b : Association) (h : Has b after) (at_b : b.server ≡ s) → Phased b (sources b h at_b)
       phased b h at_b =
           record {
             life = life_same;
@@ -985,10 +948,10 @@ module _ (k : Config) (c : ClientId) (s : ServerId) (gap d : ℕ) (read : World 
           a : Association
           a = o.from
 
-          walk : Walks st now i fit a b
+          walk : W a b
           walk = o.walk
 
-          ongoing : is_ended st.config now a.session ≡ false
+          ongoing : is_ended kb now a.session ≡ false
           ongoing = o.ongoing
 
           at_a : a.server ≡ s
@@ -1012,11 +975,10 @@ module _ (k : Config) (c : ClientId) (s : ServerId) (gap d : ℕ) (read : World 
           kept = lasts_at a b walk ongoing
 
           life_same : b.life ≡ a.life
-          life_same = walk.works.life ∙ (taken walk.first walk.second walk.takes).1 ∙ ap (λ (y : Association). y.life) kept
+          life_same = walk.life ∙ (taken walk.first walk.second walk.takes).1 ∙ ap (λ (y : Association). y.life) kept
 
           numbers_b : Numbers (λ m. Has m ns) c s a.life.0 (view b.session)
-          numbers_b = subst (λ y. Numbers (λ m. Has m ns) c y a.life.0 (view b.session)) at_b
-              (subst (λ (l : Life). Numbers (λ m. Has m ns) c b.server l.0 (view b.session)) life_same (numbers2 b h))
+          numbers_b = subst (λ (l : Life). Numbers (λ m. Has m ns) c s l.0 (view b.session)) life_same (numbers2 b h at_b)
 
           phase : (v : Option ClientSession) → a.session ≡ v → (since2 : ℕ) ×
               Phase k c s gap d read delay since2 past2 ns n.sessions a.life.0 epoch t.last b.session ×
@@ -1047,11 +1009,11 @@ module _ (k : Config) (c : ClientId) (s : ServerId) (gap d : ℕ) (read : World 
               by (Some z) f = absurd (none_of e (stays_session since a b walk ongoing at_a t young_a numbers_a numbers_b z f).1)
 
       -- why the step sent a message to the server
-      asked_new : (b : Association) → Has b (cl.client_step st now i).state.associations → b.server ≡ s → (m : Message) →
-          IsNew c x ns now.0 (cl.client_step st now i).out m → To c s m → IsAsked c s now.0 m
-      asked_new b h at_b m z y = go (sends st now i fit m z.among)
+      asked_new : (b : Association) → Has b after → b.server ≡ s → (m : Message) →
+          IsNew c x ns now.0 Says m → To c s m → IsAsked c s now.0 m
+      asked_new b h at_b m z y = go (sends m z.among)
         where
-          by : (r : Association) → Has r (cl.client_step st now i).state.associations → IsSentBy r m → IsAsked c s now.0 m
+          by : (r : Association) → Has r after → IsSentBy r m → IsAsked c s now.0 m
           by r j q = cause q.cause
             where
               at_r : r.server ≡ s
@@ -1069,10 +1031,10 @@ module _ (k : Config) (c : ClientId) (s : ServerId) (gap d : ℕ) (read : World 
                   let p = subst (Phase k c s gap d read delay ph.since past2 ns n.sessions r.life.0 epoch was.talk.last) e ph.phase in
                   let a = subst (Requested k c s gap d read delay ph.since past2 ns r.life.0 epoch was.talk.last u.lease.date.0 u.requests.next) f p.requests in
                   let served : is_served m.body ≡ true = ap is_served body ∙ a.served in
-                  let pos = (subst (Given u.requests.next) f (subst (λ o. Counts (view o)) e (numbers2 r j).counts).1).0 in
+                  let pos = (subst (Given u.requests.next) f (subst (λ o. Counts (view o)) e (numbers2 r j at_r).counts).1).0 in
                   Requests (omega (arith, number, pos)) served (let v = z.stamp (served_request m.body served) in omega (arith, v))
 
-          go : IsSeen m.body ⊎ ((r : Association) × Has r (cl.client_step st now i).state.associations × IsSentBy r m) → IsAsked c s now.0 m
+          go : IsSeen m.body ⊎ ((r : Association) × Has r after × IsSentBy r m) → IsAsked c s now.0 m
           go (inl f) = Sees f
           go (inr (r, j, q)) = by r j q
 
@@ -1085,7 +1047,7 @@ module _ (k : Config) (c : ClientId) (s : ServerId) (gap d : ℕ) (read : World 
         pub known : Talks k c s gap d read delay since past2 ns n now.0 b
         pub last_is : known.last ≡ o.talk.last
 
-      pub goes_on : (b : Association) (h : Has b (cl.client_step st now i).state.associations) (at_b : b.server ≡ s) → GoesOn b (sources b h at_b)
+      pub goes_on : (b : Association) (h : Has b after) (at_b : b.server ≡ s) → GoesOn b (sources b h at_b)
       goes_on b h at_b =
           record {
             life = p.life;
@@ -1106,14 +1068,14 @@ module _ (k : Config) (c : ClientId) (s : ServerId) (gap d : ℕ) (read : World 
           p : Phased b (sources b h at_b)
           p = phased b h at_b
 
-          asked : (m : Message) → To c s m → m.header.life ≡ b.life.0 → Has m ms ⊎ IsNew c x ns now.0 (cl.client_step st now i).out m → IsAsked c s now.0 m
+          asked : (m : Message) → To c s m → m.header.life ≡ b.life.0 → Has m ms ⊎ IsNew c x ns now.0 Says m → IsAsked c s now.0 m
           asked m f l (inl j) = p.asked m j f l
           asked m f l (inr z) = asked_new b h at_b m z f
 
-          greets : b.session ≡ None → (m : Message) → IsGreeting k c s gap d b.life.0 m → Has m ms ⊎ IsNew c x ns now.0 (cl.client_step st now i).out m →
+          greets : b.session ≡ None → (m : Message) → IsGreeting k c s gap d b.life.0 m → Has m ms ⊎ IsNew c x ns now.0 Says m →
               is_some b.greeting ≡ true
           greets e m g (inl j) = p.greets e m j g
-          greets e m g (inr z) = go (sends st now i fit m z.among)
+          greets e m g (inr z) = go (sends m z.among)
             where
               hello_seen : (y : Body) → y ≡ bd.Hello → IsSeen y → ⊥
               hello_seen _ q (SawDemand ino g) = no q
@@ -1121,7 +1083,7 @@ module _ (k : Config) (c : ClientId) (s : ServerId) (gap d : ℕ) (read : World 
                   no : bd.DemandSeen ino g ≡ bd.Hello → ⊥
                   no v = cc
 
-              cause : (r : Association) → Has r (cl.client_step st now i).state.associations → IsSentBy r m → SentBy r m → is_some b.greeting ≡ true
+              cause : (r : Association) → Has r after → IsSentBy r m → SentBy r m → is_some b.greeting ≡ true
               cause r j q (ByGreeting f none v) =
                   subst (λ (y : Association). is_some y.greeting ≡ true)
                   (once r b j h (let u = q.to in let w = g.way.to in let y : r.server.0 ≡ b.server.0 =
@@ -1135,21 +1097,103 @@ module _ (k : Config) (c : ClientId) (s : ServerId) (gap d : ℕ) (read : World 
                   let a = subst (Requested k c s gap d read delay ph.since past2 ns r.life.0 epoch was.talk.last u.lease.date.0 u.requests.next) e2 p2.requests in
                   absurd (not_both (is_served o.body) a.served (ap is_served (sym body ∙ g.body)))
 
-              go : IsSeen m.body ⊎ ((r : Association) × Has r (cl.client_step st now i).state.associations × IsSentBy r m) → is_some b.greeting ≡ true
+              go : IsSeen m.body ⊎ ((r : Association) × Has r after × IsSentBy r m) → is_some b.greeting ≡ true
               go (inl f) = absurd (hello_seen m.body g.body f)
               go (inr (r, j, q)) = cause r j q q.cause
 
+    -- An association whose lease was over, or whose life ended: nothing was said in its next life.
+    module _ (a e : Association) (since : ℕ) (at : a.server ≡ s) (t : Talks k c s gap d read delay since past ms n now.0 a)
+        (numbers : Numbers (λ m. Has m ms) c s a.life.0 (view a.session)) (next_up : e.life.0 ≡ a.life.0 + 1) (none : e.session ≡ None) where
+      -- no message is of that life
+      unsaid : (m : Message) → Has m ms → To c s m → m.header.life ≡ e.life.0 → ⊥
+      unsaid m h y l = let z = numbers.lives m h (y.from, y.to) in omega (arith, z, l, next_up)
+
+      born_before : IsKnown c s ms n.sessions a.life.0 epoch t.last → (y : Session) → session_of n.sessions c ≡ Some y → y.life.0 < e.life.0
+      born_before (IsBefore g q) y f = let l = g y f in omega (arith, l, next_up)
+      born_before (IsLiving z) y f = let l = z.of_life in let q = ap (λ (v : Session). v.life.0) (some_is (sym f ∙ z.is)) in omega (arith, l, q, next_up)
+
+      told_earlier : (m : Message) → IsTold c s ms n.sessions a.life.0 epoch t.last m → IsTold c s ms n.sessions e.life.0 epoch 0 m
+      told_earlier m (IsOwn u) = IsOwn u
+      told_earlier m (IsEarlier l) = IsEarlier (omega (arith, l, next_up))
+      told_earlier m (IsReplied l f g) = IsEarlier (omega (arith, l, next_up))
+
+      -- what the server said to it was said in an earlier life, or nobody asked for it
+      pub unheard : (j : ClientInput) → i ≡ j → Brings w x.event c.0 j → (m : Message) → j ≡ inputs.Control m → m.header.from ≡ server_node s →
+          m.header.life ≡ e.life.0 → IsUnasked m
+      unheard inputs.Tick is b m q f l = absurd (no q)
+        where
+          no : inputs.Tick ≡ inputs.Control m → ⊥
+          no r = cc
+      unheard (inputs.App op ask) is b m q f l = absurd (no q)
+        where
+          no : inputs.App op ask ≡ inputs.Control m → ⊥
+          no r = cc
+      unheard (inputs.Done number r) is b m q f l = absurd (no q)
+        where
+          no : inputs.Done number r ≡ inputs.Control m → ⊥
+          no v = cc
+      unheard (inputs.Control y) is b m q f l = by (t.told m among (record { from = f; to = ap (λ (u : Message). u.header.to) (sym same) ∙ b.1 }))
+        where
+          same : y ≡ m
+          same = it q
+            where
+              it : inputs.Control y ≡ inputs.Control m → y ≡ m
+              it r = cc
+
+          among : Has m ms
+          among = subst (λ u. Has u ms) same (delivered_among k c s gap d past x w ns more keeps y b.0)
+
+          by : IsTold c s ms n.sessions a.life.0 epoch t.last m → IsUnasked m
+          by (IsOwn u) = u
+          by (IsEarlier r) = absurd (omega (arith, r, l, next_up))
+          by (IsReplied r v g) = absurd (omega (arith, r, l, next_up))
+
+      pub next_talks : Talks k c s gap d read delay 0 past ms n now.0 e
+      next_talks = record {
+        last = 0;
+        known = IsBefore (born_before t.known) refl;
+        told = λ m h y. told_earlier m (t.told m h y);
+        asked = λ m h y l. absurd (unsaid m h y l);
+        greets = λ f m h g. absurd (unsaid m h g.way g.of_life);
+        phase = subst (Phase k c s gap d read delay 0 past ms n.sessions e.life.0 epoch 0) (sym none) ((λ m h g. absurd (unsaid m h g.way g.of_life)), refl);
+      }
+
+      next_numbers : Numbers (λ m. Has m ms) c s e.life.0 (view e.session)
+      next_numbers = subst (λ o. Numbers (λ m. Has m ms) c s e.life.0 (view o)) (sym none)
+          (record {
+            lives = λ m h y. let z = numbers.lives m h y in omega (arith, z, next_up);
+            placed = λ m h y l. absurd (unsaid m h (record { from = y.0; to = y.1 }) l);
+            one = numbers.one;
+            sent = tt;
+            counts = tt;
+          })
+
+      no_session : {P : Type 0} (z : ClientSession) → ◌≡◌ {A = Option ClientSession} None (Some z) → P
+      no_session z f = cc
+
+      pub next_source : (b : Association) → e.server ≡ s → W e b → Source b
+      next_source b at_e walk = record {
+        from = e;
+        walk = walk;
+        ongoing = ap (is_ended kb now) none;
+        at = at_e;
+        since = 0;
+        talk = next_talks;
+        young = λ z f. no_session z (sym none ∙ f);
+        numbers = next_numbers;
+      }
+
     -- what was there before
-    module _ (told : Told st now i fit i) (talks : (a : Association) → Has a st.associations → a.server ≡ s → (since : ℕ) × Talks k c s gap d read delay since past ms n now.0 a)
-        (young : (a : Association) → Has a st.associations → (z : ClientSession) → a.session ≡ Some z → z.lease.condemned ≡ false → z.requests.asked ≡ None →
+    module _ (before after : List Association) (walks : (b : Association) → Has b after → (a : Association) × Has a before × W a b)
+        (sends : (m : Message) → Says m → IsSeen m.body ⊎ ((r : Association) × Has r after × IsSentBy r m))
+        (talks : (a : Association) → Has a before → a.server ≡ s → (since : ℕ) × Talks k c s gap d read delay since past ms n now.0 a)
+        (young : (a : Association) → Has a before → (z : ClientSession) → a.session ≡ Some z → z.lease.condemned ≡ false → z.requests.asked ≡ None →
         now.0 < z.lease.date.0 + k.renew + gap)
-        (numbers : (a : Association) → Has a st.associations → Numbers (λ m. Has m ms) c a.server a.life.0 (view a.session))
-        (numbers2 : (b : Association) → Has b (cl.client_step st now i).state.associations → Numbers (λ m. Has m ns) c b.server b.life.0 (view b.session))
-        (once : (a b : Association) → Has a (cl.client_step st now i).state.associations → Has b (cl.client_step st now i).state.associations →
-        a.server.0 ≡ b.server.0 → a ≡ b) where
+        (numbers : (a : Association) → Has a before → a.server ≡ s → Numbers (λ m. Has m ms) c s a.life.0 (view a.session))
+        (numbers2 : (b : Association) → Has b after → b.server ≡ s → Numbers (λ m. Has m ns) c s b.life.0 (view b.session))
+        (once : (a b : Association) → Has a after → Has b after → a.server.0 ≡ b.server.0 → a ≡ b) where
       -- an association whose lease lasts is its own source
-      abbrev own_source : (b a : Association) → Has a st.associations → (walk : Walks st now i fit a b) → (at : a.server ≡ s) →
-          is_ended st.config now a.session ≡ false → Source b
+      abbrev pub own_source : (b a : Association) → Has a before → (walk : W a b) → (at : a.server ≡ s) → is_ended kb now a.session ≡ false → Source b
       own_source b a j walk at ongoing = record {
         from = a;
         walk = walk;
@@ -1158,129 +1202,50 @@ module _ (k : Config) (c : ClientId) (s : ServerId) (gap d : ℕ) (read : World 
         since = (talks a j at).0;
         talk = (talks a j at).1;
         young = young a j;
-        numbers = subst (λ y. Numbers (λ m. Has m ms) c y a.life.0 (view a.session)) at (numbers a j);
+        numbers = numbers a j at;
       }
 
       -- if the leases with the server last
-      module _ (ongoing : (a : Association) → Has a st.associations → a.server ≡ s → is_ended st.config now a.session ≡ false) where
-        abbrev open_source : (b : Association) → Has b (cl.client_step st now i).state.associations → b.server ≡ s → Source b
+      module _ (ongoing : (a : Association) → Has a before → a.server ≡ s → is_ended kb now a.session ≡ false) where
+        abbrev pub open_source : (b : Association) → Has b after → b.server ≡ s → Source b
         open_source b h at_b =
-            let w = walks st now i fit told b h in
-            own_source b w.0 w.1 w.2 (before_at w.0 b w.2 at_b) (ongoing w.0 w.1 (before_at w.0 b w.2 at_b))
+            let v = walks b h in
+            own_source b v.0 v.1 v.2 (before_at v.0 b v.2 at_b) (ongoing v.0 v.1 (before_at v.0 b v.2 at_b))
 
-        pub client_talks : (b : Association) → Has b (cl.client_step st now i).state.associations → b.server ≡ s →
-            TalksOn k c s gap d read delay past past2 ms ns n now st i fit talks b
-        client_talks b h at_b =
-            let w = walks st now i fit told b h in
-            let g = goes_on open_source numbers2 once b h at_b in
-            record {
-              was = w.0;
-              among = w.1;
-              at_was = before_at w.0 b w.2 at_b;
-              walk = w.2;
-              lasts = ongoing w.0 w.1 (before_at w.0 b w.2 at_b);
-              life = g.life;
-              middle = g.middle;
-              since = g.since;
-              same = g.same;
-              known = g.known;
-              last_is = g.last_is;
-            }
+        pub open_goes : (b : Association) (h : Has b after) (at_b : b.server ≡ s) → GoesOn after sends open_source numbers2 once b (open_source b h at_b)
+        open_goes b h at_b = goes_on after sends open_source numbers2 once b h at_b
 
-      -- An association whose lease is over: nothing was said in its next life.
-      module _ (b a : Association) (j : Has a st.associations) (walk : Walks st now i fit a b) (at : a.server ≡ s)
-          (over : is_ended st.config now a.session ≡ true) where
-        abbrev its_talks : Talks k c s gap d read delay (talks a j at).0 past ms n now.0 a
-        its_talks = (talks a j at).1
-
-        numbers_a : Numbers (λ m. Has m ms) c s a.life.0 (view a.session)
-        numbers_a = subst (λ y. Numbers (λ m. Has m ms) c y a.life.0 (view a.session)) at (numbers a j)
-
-        abbrev emptied : Association
-        emptied = walk.first
-
-        next_up : emptied.life.0 ≡ a.life.0 + 1
-        next_up = sym (ap (λ (l : Life). l.0) (walk.loses.lost over))
-
-        emptied_none : emptied.session ≡ None
-        emptied_none = (walk.gone over).0
-
-        -- no message is of that life
-        unsaid : (m : Message) → Has m ms → To c s m → m.header.life ≡ emptied.life.0 → ⊥
-        unsaid m h y l = let z = numbers_a.lives m h (y.from, y.to) in omega (arith, z, l, next_up)
-
-        born_before : IsKnown c s ms n.sessions a.life.0 epoch its_talks.last → (y : Session) → session_of n.sessions c ≡ Some y → y.life.0 < emptied.life.0
-        born_before (IsBefore g q) y e = let l = g y e in omega (arith, l, next_up)
-        born_before (IsLiving z) y e = let l = z.of_life in let q = ap (λ (v : Session). v.life.0) (some_is (sym e ∙ z.is)) in omega (arith, l, q, next_up)
-
-        told_earlier : (m : Message) → IsTold c s ms n.sessions a.life.0 epoch its_talks.last m → IsTold c s ms n.sessions emptied.life.0 epoch 0 m
-        told_earlier m (IsOwn u) = IsOwn u
-        told_earlier m (IsEarlier l) = IsEarlier (omega (arith, l, next_up))
-        told_earlier m (IsReplied l e g) = IsEarlier (omega (arith, l, next_up))
-
-        emptied_talks : Talks k c s gap d read delay 0 past ms n now.0 emptied
-        emptied_talks = record {
-          last = 0;
-          known = IsBefore (born_before its_talks.known) refl;
-          told = λ m h y. told_earlier m (its_talks.told m h y);
-          asked = λ m h y l. absurd (unsaid m h y l);
-          greets = λ e m h g. absurd (unsaid m h g.way g.of_life);
-          phase = subst (Phase k c s gap d read delay 0 past ms n.sessions emptied.life.0 epoch 0) (sym emptied_none) ((λ m h g. absurd (unsaid m h g.way g.of_life)), refl);
-        }
-
-        emptied_numbers : Numbers (λ m. Has m ms) c s emptied.life.0 (view emptied.session)
-        emptied_numbers = subst (λ o. Numbers (λ m. Has m ms) c s emptied.life.0 (view o)) (sym emptied_none)
-            (record {
-              lives = λ m h y. let z = numbers_a.lives m h y in omega (arith, z, next_up);
-              placed = λ m h y l. absurd (unsaid m h (record { from = y.0; to = y.1 }) l);
-              one = numbers_a.one;
-              sent = tt;
-              counts = tt;
-            })
-
-        no_session : {P : Type 0} (z : ClientSession) → ◌≡◌ {A = Option ClientSession} None (Some z) → P
-        no_session z e = cc
-
-        emptied_source : Source b
-        emptied_source = record {
-          from = emptied;
-          walk = record {
-            first = emptied;
+      -- an association whose lease is over
+      over_source : (b a : Association) (j : Has a before) (walk : W a b) (at : a.server ≡ s) → is_ended kb now a.session ≡ true → Source b
+      over_source b a j walk at over =
+          let z = walk.lost over in
+          next_source a walk.first (talks a j at).0 at (talks a j at).1 (numbers a j at) z.0 z.1 b (walk.stays ∙ at) (record {
+            first = walk.first;
             second = walk.second;
-            loses = record {
-              server = refl;
-              fit = λ y. y;
-              lasts = λ e. refl;
-              lost = λ e. absurd (not_both (is_ended st.config now emptied.session) e walk.loses.going);
-              emptied = λ e. absurd (not_both (is_ended st.config now emptied.session) e walk.loses.going);
-              going = walk.loses.going;
-            };
-            gone = λ e. absurd (not_both (is_ended st.config now emptied.session) e walk.loses.going);
+            stays = refl;
+            lasts = λ e. refl;
+            lost = λ e. absurd (not_both (is_ended kb now walk.first.session) e walk.going);
+            going = walk.going;
             takes = walk.takes;
-            works = walk.works;
-          };
-          ongoing = walk.loses.going;
-          at = sym walk.loses.server ∙ at;
-          since = 0;
-          talk = emptied_talks;
-          young = λ z e. no_session z (sym emptied_none ∙ e);
-          numbers = emptied_numbers;
-        }
+            server = walk.server;
+            life = walk.life;
+            session = walk.session;
+            greeting = walk.greeting;
+          })
 
-      any_source : (b : Association) → Has b (cl.client_step st now i).state.associations → b.server ≡ s → Source b
-      any_source b h at_b = go (walks st now i fit told b h)
+      any_source : (b : Association) → Has b after → b.server ≡ s → Source b
+      any_source b h at_b = go (walks b h)
         where
-          go : (a : Association) × Has a st.associations × Walks st now i fit a b → Source b
-          go (a, j, walk) = by (is_ended st.config now a.session) refl
+          go : (a : Association) × Has a before × W a b → Source b
+          go (a, j, walk) = by (is_ended kb now a.session) refl
             where
               at : a.server ≡ s
               at = before_at a b walk at_b
 
-              by : (e : Bool) → is_ended st.config now a.session ≡ e → Source b
+              by : (e : Bool) → is_ended kb now a.session ≡ e → Source b
               by false e = own_source b a j walk at e
-              by true e = emptied_source b a j walk at e
+              by true e = over_source b a j walk at e
 
       -- what is known after the step, whether a lease was over or not
-      pub any_talks : (b : Association) → Has b (cl.client_step st now i).state.associations → b.server ≡ s →
-          (since : ℕ) × Talks k c s gap d read delay since past2 ns n now.0 b
-      any_talks b h at_b = let g = goes_on any_source numbers2 once b h at_b in (g.since, g.known)
+      pub any_talks : (b : Association) → Has b after → b.server ≡ s → (since : ℕ) × Talks k c s gap d read delay since past2 ns n now.0 b
+      any_talks b h at_b = let g = goes_on after sends any_source numbers2 once b h at_b in (g.since, g.known)

@@ -2,10 +2,11 @@
 -- that was seen changes no session, and is not answered.
 use Rattle.st_lemmas.proofs.Words
 use Words.{◌≡◌, ℕ, ◌<◌, ◌⊎◌, Bool, true, false, [], ◌∷◌, ◌++◌, ◌==◌, refl, sym, ap, subst, inl, inr, arith, nat_le, nat_lt, not, is_some, Option, Some, None}
-use Words.{eq-eqb, leb-true, ltb-true, ClientId, GrantNo, Stamp, Header, Suspect, Session}
+use Words.{eq-eqb, leb-true, ltb-true, ClientId, GrantNo, Stamp, Body, Header, Suspect, Session}
 use Words.bodies as bd
 use Words.states.{Live}
 use Words.hellos
+use Words.serving.{Control}
 use Words.Authority as authority
 use Words.Authority.{Authority, may_ack}
 use Words.Locks as locks
@@ -15,6 +16,7 @@ use Words.Sessions as sessions
 use Words.Tables.{cond_either}
 use Words.Truth.{not_both}
 use Rattle.st_laws_refine.proofs.Server.Changes.{session_own}
+use Rattle.st_trace.specs.Server.Steps.{hears, take_of}
 use Rattle.st_laws_healthy.proofs.Serving.{reply_in}
 use Rattle.st_laws_waits.proofs.Robbing.{not_free}
 
@@ -27,6 +29,10 @@ no_timer a c e = go (authority.suspect_of a c) refl
     go (Some x) q = absurd (not_both (not (is_some (authority.suspect_of a c))) e (ap (λ (o : Option Suspect). not (is_some o)) q))
 
 module _ (now : Stamp) (h : Header) (t : ServerTurn) where
+  -- what a message leaves at a server that hears these nodes
+  abbrev pub heard : (ℕ → Bool) → Body → ServerTurn
+  heard clients b = take_of clients t now (Control (record { header = h; body = b }))
+
   -- What a welcome greeting leaves: only the welcome is said, and the sender's session belongs to the greeting's life, anew or as it was.
   pub record IsWelcome (u : ServerTurn) : Type 0 where
     pub out : u.out ≡ t.out ++ reply_in now h t bd.Welcome ∷ []
@@ -125,15 +131,14 @@ module _ (now : Stamp) (h : Header) (t : ServerTurn) where
       go (Some y) e = old y e (below y e)
 
   -- the greeting
-  pub welcomed : sv.is_for t.state h ≡ true → may_ack t.state.authority (sv.sender h) ≡ true → sv.in_grace t now ≡ false → NoLater →
-      Free (sv.receive t now h bd.Hello) →
-      IsWelcome (sv.receive t now h bd.Hello)
-  unfolding sv.receive sv.receive_from sv.by_suspicion sv.by_body sv.hello sv.greet
-  welcomed for m off below =
-      cond_either F (sv.is_for t.state h) (sv.receive_from t now h bd.Hello) t
+  pub welcomed : (clients : ℕ → Bool) → hears clients t.state h ≡ true → may_ack t.state.authority (sv.sender h) ≡ true → sv.in_grace t now ≡ false →
+      NoLater → Free (heard clients bd.Hello) → IsWelcome (heard clients bd.Hello)
+  unfolding sv.receive_from sv.by_suspicion sv.by_body sv.hello sv.greet
+  welcomed clients for m off below =
+      cond_either F (hears clients t.state h) (sv.receive_from t now h bd.Hello) t
       (λ e. subst (λ o. F (sv.by_suspicion t now h bd.Hello o)) (sym (no_timer t.state.authority (sv.sender h) m))
       (cond_either F (sv.in_grace t now) (sv.refuse_in_grace t h) (sv.greet t now h) (λ g. absurd (not_both (sv.in_grace t now) g off))
-      (λ g. at_sessions m below (locks.has_rows t.state.locks (sv.sender h))))) (λ e. absurd (not_both (sv.is_for t.state h) for e))
+      (λ g. at_sessions m below (locks.has_rows t.state.locks (sv.sender h))))) (λ e. absurd (not_both (hears clients t.state h) for e))
     where
       F : ServerTurn → Type 0
       F u = Free u → IsWelcome u
@@ -143,10 +148,11 @@ module _ (now : Stamp) (h : Header) (t : ServerTurn) where
     pub sessions : u.state.sessions ≡ t.state.sessions
     pub out : u.out ≡ t.out
 
-  pub seen_quiet : (ino : ℕ) (g : GrantNo) → may_ack t.state.authority (sv.sender h) ≡ true → IsQuiet (sv.receive t now h (bd.DemandSeen ino g))
-  unfolding sv.receive sv.receive_from sv.by_suspicion sv.by_body sv.demand_seen sv.observe_demand
-  seen_quiet ino g m =
-      cond_either IsQuiet (sv.is_for t.state h) (sv.receive_from t now h (bd.DemandSeen ino g)) t
+  pub seen_quiet : (clients : ℕ → Bool) (ino : ℕ) (g : GrantNo) → may_ack t.state.authority (sv.sender h) ≡ true →
+      IsQuiet (heard clients (bd.DemandSeen ino g))
+  unfolding sv.receive_from sv.by_suspicion sv.by_body sv.demand_seen sv.observe_demand
+  seen_quiet clients ino g m =
+      cond_either IsQuiet (hears clients t.state h) (sv.receive_from t now h (bd.DemandSeen ino g)) t
       (λ e. subst (λ o. IsQuiet (sv.by_suspicion t now h (bd.DemandSeen ino g) o)) (sym (no_timer t.state.authority (sv.sender h) m))
       (cond_either IsQuiet (sv.is_served t h) (sv.observe_demand t h ino g) t (λ f. record { sessions = refl; out = refl })
       (λ f. record { sessions = refl; out = refl })))

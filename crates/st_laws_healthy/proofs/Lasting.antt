@@ -48,7 +48,8 @@ use Rattle.st_laws_lasting.specs.Lasting.{client_clock, client_last_tick}
 use Rattle.st_laws_lasting.proofs.Young as young_ones
 use Rattle.st_laws_lasting.proofs.Young.{Ok_in, WasYoung, stand2}
 use Rattle.st_laws_healthy.specs.Healthy.{ComeInTime, IsHealthy, LeasesLast, longest}
-use Rattle.st_laws_healthy.proofs.ClientStanding.{IsNew, TalksOn, any_talks, client_talks}
+use Rattle.st_laws_healthy.proofs.ClientStanding.{IsNew}
+use Rattle.st_laws_healthy.proofs.ClientTalks.{TalksOn, any_talks, client_talks}
 use Rattle.st_laws_healthy.proofs.Happening.{AllRun, BothRun, Brings, BringsServer, ClientSteps, Happened, IsBroken, NeitherSteps, ServerSteps, happened}
 use Rattle.st_laws_healthy.proofs.Numbers.{keeps_number, tells_number}
 use Rattle.st_laws_healthy.proofs.Served.{IsBefore}
@@ -299,11 +300,11 @@ module _ (k : Config) (count : ℕ) (c : ClientId) (s : ServerId) (gap d : ℕ) 
           by (inputs.Control m) b = b.1 ∙ ap (λ (y : ClientId). y.0) (sym id_is)
           by (inputs.Done n r) b = tt
 
-      pub new_one : (m : Message) → Has m M2 → Has m (messages t.world) ⊎ IsNew c x M2 now.0 (cl.client_step st now i).out m
+      pub new_one : (m : Message) → Has m M2 → Has m (messages t.world) ⊎ IsNew c x M2 now.0 (λ m. Has (outputs.Send m) (cl.client_step st now i).out) m
       new_one m j = by (new m j)
         where
           say : Has (outputs.Send m) (cl.client_step st now i).out → Has m (messages t.world) ⊎ dating_steps.New t sc m →
-              Has m (messages t.world) ⊎ IsNew c x M2 now.0 (cl.client_step st now i).out m
+              Has m (messages t.world) ⊎ IsNew c x M2 now.0 (λ m. Has (outputs.Send m) (cl.client_step st now i).out) m
           say q (inl y) = inl y
           say q (inr y) =
               inr (record {
@@ -319,7 +320,7 @@ module _ (k : Config) (count : ℕ) (c : ClientId) (s : ServerId) (gap d : ℕ) 
               from_client = lt-ltb m.header.from 32768 (let f = from m q in let l = place.1 in omega (arith, f, l))
 
           by : Has m (messages t.world) ⊎ Has (outputs.Send m) (cl.client_step st now i).out →
-              Has m (messages t.world) ⊎ IsNew c x M2 now.0 (cl.client_step st now i).out m
+              Has m (messages t.world) ⊎ IsNew c x M2 now.0 (λ m. Has (outputs.Send m) (cl.client_step st now i).out) m
           by (inl y) = inl y
           by (inr q) = say q (next.new m j)
 

@@ -1,6 +1,7 @@
 pub mod Answering
 pub mod ClientAnswering
 pub mod ClientStanding
+pub mod ClientTalks
 pub mod Counting
 pub mod Demanded
 pub mod Emptying
@@ -37,3 +38,4 @@ pub mod Taking
 pub mod Talking
 pub mod Telling
 pub mod Trips
+pub mod Walking

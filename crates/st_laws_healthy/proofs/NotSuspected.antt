@@ -47,7 +47,7 @@ use Rattle.st_laws_lasting.specs.Lasting.{client_clock}
 use Rattle.st_laws_healthy.specs.Healthy.{HealthyClientsAreNotSuspected, InPromptRuns, IsHealthy, IsPrompt, longest}
 use Rattle.st_laws_healthy.proofs.Answering.{Answered, answers_in_time, has_served, neither_answers, rounds}
 use Rattle.st_laws_healthy.proofs.ClientAnswering.{IsUttered, client_answers}
-use Rattle.st_laws_healthy.proofs.ClientStanding.{TalksOn}
+use Rattle.st_laws_healthy.proofs.ClientTalks.{TalksOn}
 use Rattle.st_laws_healthy.proofs.Given as given
 use Rattle.st_laws_healthy.proofs.Happening.{BothRun, ClientSteps, Happened, IsBroken, NeitherSteps, ServerSteps, happened}
 use Rattle.st_laws_healthy.proofs.Lasting as lasting

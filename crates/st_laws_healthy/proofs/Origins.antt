@@ -71,7 +71,7 @@ module _ (c : ClientId) where
       let w = stolen t x (session_of t.state.sessions x) z.0 z.1 in
       (w.0, w.1, z.2 ∙ w.2)
 
-  before_thefts : (n : ServerState) (now : Stamp) (y : Session) → session_of (thefts (turn n []) now).state.sessions c ≡ Some y → Was n.sessions y
+  pub before_thefts : (n : ServerState) (now : Stamp) (y : Session) → session_of (thefts (turn n []) now).state.sessions c ≡ Some y → Was n.sessions y
   unfolding thefts
   before_thefts n now y e = stolen_each _ (with_authority (Rattle.st_rules.specs.Authority.still_running n.authority now) (turn n [])) y e
 

@@ -1,7 +1,7 @@
 -- What a step of a server does for one life of a client that it does not suspect: how far the session of that life is served after it.
 -- Each message to the client is one that nobody asked for, or of an earlier life, or a welcome, or a reply that counts, or tells of another epoch.
 use Rattle.st_lemmas.proofs.Words
-use Words.{◌≡◌, ◌≢◌, ℕ, ◌+◌, ◌≤◌, ◌<◌, ◌⊎◌, true, false, ◌==◌, List, [], ◌∷◌, refl, sym, ap, ◌∙◌, subst, inl, inr, arith, nat_lt, Option, Some, None}
+use Words.{◌≡◌, ◌≢◌, ℕ, ◌+◌, ◌≤◌, ◌<◌, ◌⊎◌, Bool, true, false, ◌==◌, List, [], ◌∷◌, refl, sym, ap, ◌∙◌, subst, inl, inr, arith, nat_lt, Option, Some, None}
 use Words.{option_map, eq-eqb, eqb-true, ltb-true, ClientId, Epoch, ServerId, Stamp, Header, Body, Message, Why, Output, ServerInput, Session, SessionState}
 use Words.{Taken}
 use Words.bodies as bd
@@ -14,7 +14,7 @@ use Words.Authority as authority
 use Words.Authority.{may_ack}
 use Words.Keys.{client, server_node}
 use Words.Server as sv
-use Words.Server.{ServerState, ServerTurn, server_step, thefts, turn}
+use Words.Server.{ServerState, ServerTurn, thefts, turn}
 use Words.Sessions as sessions
 use Words.Sessions.{Sessions}
 use Words.Lists.{Has}
@@ -28,12 +28,13 @@ use Rattle.st_laws_healthy.proofs.Lives.{ComesFrom, IsOf, IsOlder, comes_from}
 use Rattle.st_laws_healthy.proofs.Replies.{counts_for, is_served}
 use Rattle.st_laws_healthy.proofs.Requests.{IsRequest, in_epoch, not_unknown}
 use Rattle.st_laws_healthy.proofs.Serving.{Accepts, Alone, Answers, Does, Ground, OfEpoch, OfGrace, OfGreeting, OfLocks, OfSession, OfSuspect, Passes, Refuses}
-use Rattle.st_laws_healthy.proofs.Serving.{Repeats, Serves, Welcomes, does, reply_in, said_is}
+use Rattle.st_laws_healthy.proofs.Serving.{Repeats, Serves, Welcomes, does_of, reply_in, said_is}
 use Rattle.st_laws_healthy.proofs.Sessions.{Is_later, LivesOn, Serves_next, Stays, kept_of, kept_own, lives_on}
 use Rattle.st_laws_healthy.proofs.Sparing.{IsSpared, spared}
 use Rattle.st_laws_healthy.proofs.Taking.{IsSeen, SawDemand}
-use Rattle.st_laws_healthy.proofs.Telling.{IsUnasked, quiet, step_answers, step_free, step_grows, step_says, step_sends, step_sessions, tick_sends}
-use Rattle.st_laws_healthy.proofs.Telling.{tick_sessions}
+use Rattle.st_laws_healthy.proofs.Telling.{IsUnasked, quiet, step_answers_of, step_free_of, step_grows_of, step_says_of, step_sends_of, step_sessions_of}
+use Rattle.st_laws_healthy.proofs.Telling.{tick_sends_of, tick_sessions_of}
+use Rattle.st_trace.specs.Server.Steps.{hears, step_of, take_of}
 
 module _ (c : ClientId) (s : ServerId) where
   -- a message from the client to the server, and one back
@@ -141,7 +142,8 @@ module _ (c : ClientId) (s : ServerId) where
     pub given : (next ≡ last) ⊎ ((r : Message) × (i ≡ Control r) × (next ≡ last + 1) × IsRequest (Comes ns) c life epoch next r)
     pub told : (r : Message) → Has (outputs.Send r) out → From r → IsTold ns w life epoch next r
 
-  module _ (ms ns : List Message) (more : (m : Message) → Has m ms → Has m ns) (n : ServerState) (now : Stamp) (life last : ℕ)
+  -- at a server that hears these nodes as clients
+  module _ (clients : ℕ → Bool) (ms ns : List Message) (more : (m : Message) → Has m ms → Has m ns) (n : ServerState) (now : Stamp) (life last : ℕ)
       (free : may_ack n.authority c ≡ true)
       (sepoch : n.sessions.epoch ≡ n.stable.epoch) (known : IsKnown ms n.sessions life n.stable.epoch.0 last) where
     abbrev epoch : ℕ
@@ -178,24 +180,24 @@ module _ (c : ClientId) (s : ServerId) where
     same w i out e f = record { next = last; grows = omega arith; known = known_as w e known; served = served_as w e; given = inl refl; told = f }
 
     -- A tick.
-    pub tick_goes : Goes ms ns n.sessions (server_step n now Tick).state.sessions life epoch last Tick (server_step n now Tick).out
+    pub tick_goes : Goes ms ns n.sessions (step_of clients n now Tick).state.sessions life epoch last Tick (step_of clients n now Tick).out
     tick_goes =
-        same (server_step n now Tick).state.sessions Tick (server_step n now Tick).out (ap (λ v. sessions.session_of v c) (tick_sessions n now) ∙ z.session)
-        (λ r h f. IsOwn (tick_sends n now r h))
+        same (step_of clients n now Tick).state.sessions Tick (step_of clients n now Tick).out (ap (λ v. sessions.session_of v c) (tick_sessions_of clients n now) ∙ z.session)
+        (λ r h f. IsOwn (tick_sends_of clients n now r h))
 
     -- A message to the server.
-    module _ (m : Message) (among : Has m ms) (to : m.header.to ≡ server_node s) (few : c.0 ≤ 16) (some : 1 ≤ c.0) (id : n.id ≡ s) where
+    module _ (m : Message) (among : Has m ms) (to : m.header.to ≡ server_node s) (heard : clients c.0 ≡ true) (id : n.id ≡ s) where
       abbrev h : Header
       h = m.header
 
       abbrev v : ServerTurn
-      v = sv.receive u now h m.body
+      v = take_of clients u now (Control m)
 
       abbrev w : Sessions
-      w = (server_step n now (Control m)).state.sessions
+      w = (step_of clients n now (Control m)).state.sessions
 
       sessions_stay : w ≡ v.state.sessions
-      sessions_stay = step_sessions n now m
+      sessions_stay = step_sessions_of clients n now m
 
       session_stays : sessions.session_of w c ≡ sessions.session_of v.state.sessions c
       session_stays = ap (λ x. sessions.session_of x c) sessions_stay
@@ -215,7 +217,7 @@ module _ (c : ClientId) (s : ServerId) where
 
         other_served : IsServed ms n.sessions life epoch last → sessions.session_of w c ≡ sessions.session_of n.sessions c
         other_served k = session_stays ∙ subst (λ (x : ClientId). sessions.session_of v.state.sessions x ≡ Some k.session) own
-            (by (lives_on now h u v m.body k.session last k.kept there k.state (does now h u m.body))) ∙ sym k.is
+            (by (lives_on now h u v m.body k.session last k.kept there k.state (does_of now h clients u m.body))) ∙ sym k.is
           where
             own : k.session.client ≡ c
             own = ap (λ i. client i) k.own
@@ -231,24 +233,24 @@ module _ (c : ClientId) (s : ServerId) where
 
         other_before : ((y : Session) → sessions.session_of n.sessions c ≡ Some y → y.life.0 < life) → (y : Session) → sessions.session_of w c ≡ Some y →
             y.life.0 < life
-        other_before f y q = by (comes_from now h u v m.body c (does now h u m.body) y (sym session_stays ∙ q))
+        other_before f y q = by (comes_from now h u v m.body c (does_of now h clients u m.body) y (sym session_stays ∙ q))
           where
             by : ComesFrom now h u v m.body c y → y.life.0 < life
             by (IsOlder x e l) = let o = f x (sym z.session ∙ e) in let k = ap (λ (i : Rattle.st_base.specs.declared.ids.Life.Life). i.0) l in omega
                 (arith, o, k)
             by (IsOf e l) = let o = not_its e in omega (arith, o, l)
 
-        other_told : (r : Message) → Has (outputs.Send r) (server_step n now (Control m)).out → From r → IsTold ns w life epoch last r
-        other_told r i f = by (step_sends n now m r i)
+        other_told : (r : Message) → Has (outputs.Send r) (step_of clients n now (Control m)).out → From r → IsTold ns w life epoch last r
+        other_told r i f = by (step_sends_of clients n now m r i)
           where
             by : IsUnasked r ⊎ Answers now h u m.body r → IsTold ns w life epoch last r
             by (inl q) = IsOwn q
             by (inr a) = let y = its_life r a in let l = not_its (sym y.1 ∙ f.to) in let e = y.0 in IsEarlier (omega (arith, l, e))
 
-        pub other_goes : Goes ms ns n.sessions w life epoch last (Control m) (server_step n now (Control m)).out
+        pub other_goes : Goes ms ns n.sessions w life epoch last (Control m) (step_of clients n now (Control m)).out
         other_goes = go known
           where
-            go : IsKnown ms n.sessions life epoch last → Goes ms ns n.sessions w life epoch last (Control m) (server_step n now (Control m)).out
+            go : IsKnown ms n.sessions life epoch last → Goes ms ns n.sessions w life epoch last (Control m) (step_of clients n now (Control m)).out
             go (IsBefore f q) =
                 record {
                   next = last;
@@ -258,7 +260,7 @@ module _ (c : ClientId) (s : ServerId) where
                   given = inl refl;
                   told = other_told;
                 }
-            go (IsLiving k) = same w (Control m) (server_step n now (Control m)).out (other_served k) other_told
+            go (IsLiving k) = same w (Control m) (step_of clients n now (Control m)).out (other_served k) other_told
 
       -- A message of the client, in this life.
       module _ (mine : h.from ≡ c.0) (present : h.life ≡ life) where
@@ -268,13 +270,10 @@ module _ (c : ClientId) (s : ServerId) where
         free_sender : may_ack u.state.authority (sv.sender h) ≡ true
         free_sender = subst (λ x. may_ack u.state.authority x ≡ true) (sym sender_is) z.free
 
-        pub is_for : sv.is_for u.state h ≡ true
-        is_for =
-            Rattle.st_lemmas.proofs.Tables.and_both (h.to == server_node u.state.id) (sv.is_client_node h.from)
-            (eq-eqb h.to (server_node u.state.id) (to ∙ ap (λ i. server_node i) (sym (z.id ∙ id))))
-            (Rattle.st_lemmas.proofs.Tables.and_both (Rattle.std.specs.Prelude.nat_le 1 h.from) (Rattle.std.specs.Prelude.nat_le h.from 16)
-            (Rattle.std.proofs.lemmas.Bool.le-leb 1 h.from (omega (arith, mine, some))) (Rattle.std.proofs.lemmas.Bool.le-leb h.from 16
-            (omega (arith, mine, few))))
+        pub is_heard : hears clients u.state h ≡ true
+        is_heard =
+            Rattle.st_lemmas.proofs.Tables.and_both (h.to == server_node u.state.id) (clients h.from)
+            (eq-eqb h.to (server_node u.state.id) (to ∙ ap (λ i. server_node i) (sym (z.id ∙ id)))) (ap clients mine ∙ heard)
 
         to_client : To m
         to_client = record { from = mine; to = to }
@@ -291,29 +290,29 @@ module _ (c : ClientId) (s : ServerId) where
 
         -- what the step says, if its rule says only this
         told_by : (top : ℕ) → ((r : Message) → Has (outputs.Send r) v.out → IsTold ns w life epoch top r) → (r : Message) →
-            Has (outputs.Send r) (server_step n now (Control m)).out → From r →
+            Has (outputs.Send r) (step_of clients n now (Control m)).out → From r →
             IsTold ns w life epoch top r
-        told_by top f r i fr = go (step_says n now m r i)
+        told_by top f r i fr = go (step_says_of clients n now m r i)
           where
             go : Has (outputs.Send r) v.out ⊎ IsUnasked r → IsTold ns w life epoch top r
             go (inl j) = f r j
             go (inr q) = IsOwn q
 
         -- a message that says nothing and leaves the sessions
-        passed : v.state.sessions ≡ u.state.sessions → v.out ≡ u.out → Goes ms ns n.sessions w life epoch last (Control m) (server_step n now (Control m)).out
+        passed : v.state.sessions ≡ u.state.sessions → v.out ≡ u.out → Goes ms ns n.sessions w life epoch last (Control m) (step_of clients n now (Control m)).out
         passed e o =
-            same w (Control m) (server_step n now (Control m)).out (session_stays ∙ ap (λ x. sessions.session_of x c) e ∙ z.session)
+            same w (Control m) (step_of clients n now (Control m)).out (session_stays ∙ ap (λ x. sessions.session_of x c) e ∙ z.session)
             (told_by last (λ r j. absurd (quiet n now r (subst (Has (outputs.Send r)) o j))))
 
         -- That a demand was seen.
-        pub seen_goes : IsSeen m.body → Goes ms ns n.sessions w life epoch last (Control m) (server_step n now (Control m)).out
+        pub seen_goes : IsSeen m.body → Goes ms ns n.sessions w life epoch last (Control m) (step_of clients n now (Control m)).out
         seen_goes q = let k = by m.body q in passed k.sessions k.out
           where
-            by : (b : Body) → IsSeen b → IsQuiet now h u (sv.receive u now h b)
-            by _ (SawDemand ino g) = seen_quiet now h u ino g free_sender
+            by : (b : Body) → IsSeen b → IsQuiet now h u (take_of clients u now (Control (record { header = h; body = b })))
+            by _ (SawDemand ino g) = seen_quiet now h u clients ino g free_sender
 
         -- A greeting.
-        module _ (e : m.body ≡ bd.Hello) (off : Rattle.st_rules.specs.Grace.is_on n.grace now ≡ false) (still : may_ack (server_step n now (Control m)).state.authority c ≡ true) where
+        module _ (e : m.body ≡ bd.Hello) (off : Rattle.st_rules.specs.Grace.is_on n.grace now ≡ false) (still : may_ack (step_of clients n now (Control m)).state.authority c ≡ true) where
           no_later : (y : Session) → sessions.session_of u.state.sessions (sv.sender h) ≡ Some y →
               (y.life.0 < h.life) ⊎ ((y.life.0 ≡ h.life) × (sessions.is_live y ≡ true))
           no_later y q = go known
@@ -331,14 +330,14 @@ module _ (c : ClientId) (s : ServerId) where
                         k.state,
                   )
 
-          free_behind : may_ack (sv.receive u now h bd.Hello).state.authority (sv.sender h) ≡ true
-          free_behind = subst (λ b. may_ack (sv.receive u now h b).state.authority (sv.sender h) ≡ true) e
-              (subst (λ x. may_ack v.state.authority x ≡ true) (sym sender_is) (step_free n now m c still))
+          free_behind : may_ack (take_of clients u now (Control (record { header = h; body = bd.Hello }))).state.authority (sv.sender h) ≡ true
+          free_behind = subst (λ b. may_ack (take_of clients u now (Control (record { header = h; body = b }))).state.authority (sv.sender h) ≡ true) e
+              (subst (λ x. may_ack v.state.authority x ≡ true) (sym sender_is) (step_free_of clients n now m c still))
 
           welcome : IsWelcome now h u v
           welcome =
-              subst (λ b. IsWelcome now h u (sv.receive u now h b)) (sym e)
-              (welcomed now h u is_for free_sender (ap (λ g. Rattle.st_rules.specs.Grace.is_on g now) z.grace ∙ off) no_later free_behind)
+              subst (λ b. IsWelcome now h u (take_of clients u now (Control (record { header = h; body = b })))) (sym e)
+              (welcomed now h u clients is_heard free_sender (ap (λ g. Rattle.st_rules.specs.Grace.is_on g now) z.grace ∙ off) no_later free_behind)
 
           lives : IsServed ns w life epoch last
           lives = go known welcome.begins
@@ -367,7 +366,7 @@ module _ (c : ClientId) (s : ServerId) where
                   let k = welcome.life in
                   absurd (omega (arith, l, k, present))
               go (IsLiving k) b = served_as w (session_stays ∙ subst (λ (x : ClientId). sessions.session_of v.state.sessions x ≡ Some k.session) own
-                  (by (lives_on now h u v m.body k.session last k.kept there k.state (does now h u m.body))) ∙ sym k.is) k
+                  (by (lives_on now h u v m.body k.session last k.kept there k.state (does_of now h clients u m.body))) ∙ sym k.is) k
                 where
                   own : k.session.client ≡ c
                   own = ap (λ i. client i) k.own
@@ -381,7 +380,7 @@ module _ (c : ClientId) (s : ServerId) where
                   by (Serves_next x from l number f g q) = absurd (not_both (is_served m.body) f (ap is_served e))
                   by (Is_later from l) = let o = k.of_life in absurd (omega (arith, l, o, present))
 
-          pub hello_goes : Goes ms ns n.sessions w life epoch last (Control m) (server_step n now (Control m)).out
+          pub hello_goes : Goes ms ns n.sessions w life epoch last (Control m) (step_of clients n now (Control m)).out
           hello_goes =
               record {
                 next = last;
@@ -394,11 +393,11 @@ module _ (c : ClientId) (s : ServerId) where
               }
 
           -- and it is answered
-          pub hello_answered : (r : Message) × Has (outputs.Send r) (server_step n now (Control m)).out × From r × (r.header.life ≡ life) ×
+          pub hello_answered : (r : Message) × Has (outputs.Send r) (step_of clients n now (Control m)).out × From r × (r.header.life ≡ life) ×
               (r.body ≡ bd.Welcome) × (r.header.stamp ≡ h.stamp)
           hello_answered = (
             record { header = sv.reply_header u.state h; body = bd.Welcome },
-            step_grows n now m (reply_in now h u bd.Welcome) (subst (Has (reply_in now h u bd.Welcome)) (sym welcome.out)
+            step_grows_of clients n now m (reply_in now h u bd.Welcome) (subst (Has (reply_in now h u bd.Welcome)) (sym welcome.out)
                 (has_right u.out (reply_in now h u bd.Welcome ∷ []) (reply_in now h u bd.Welcome) (inl refl))),
             record { from = ap (λ i. server_node i) (z.id ∙ id); to = mine },
             present,
@@ -454,13 +453,13 @@ module _ (c : ClientId) (s : ServerId) where
           refused top y a b (OfSuspect start q) = absurd (no_timer_runs start q)
           refused top y a b (OfGreeting q) = absurd (not_both (is_served m.body) serves (ap is_served q))
 
-          by_rule : Does now h u m.body v → Goes ms ns n.sessions w life epoch last (Control m) (server_step n now (Control m)).out
+          by_rule : Does now h u m.body v → Goes ms ns n.sessions w life epoch last (Control m) (step_of clients n now (Control m)).out
           by_rule (Passes e o) = passed e o
           by_rule (Refuses y a b g e says) =
-              same w (Control m) (server_step n now (Control m)).out (session_stays ∙ ap (λ x. sessions.session_of x c) e ∙ z.session)
+              same w (Control m) (step_of clients n now (Control m)).out (session_stays ∙ ap (λ x. sessions.session_of x c) e ∙ z.session)
               (told_by last (λ r j. answered last (bd.Nack y a b) r (said_is now h u v (bd.Nack y a b) says r j) (refused last y a b g)))
           by_rule (Repeats x e t says) =
-              same w (Control m) (server_step n now (Control m)).out (session_stays ∙ ap (λ x. sessions.session_of x c) e ∙ z.session)
+              same w (Control m) (step_of clients n now (Control m)).out (session_stays ∙ ap (λ x. sessions.session_of x c) e ∙ z.session)
               (told_by last (λ r j. answered last x r (said_is now h u v x says r j) good))
             where
               ok : TakeOk (sessions.session_of u.state.sessions (sv.sender h)) h.life h.number (takes.Again x)
@@ -526,8 +525,8 @@ module _ (c : ClientId) (s : ServerId) where
           by_rule (Welcomes q e says) = absurd (not_both (is_served m.body) serves (ap is_served q))
           by_rule (Accepts rows q l e says) = absurd (not_both (is_served m.body) serves (ap is_served q))
 
-          pub request_goes : Goes ms ns n.sessions w life epoch last (Control m) (server_step n now (Control m)).out
-          request_goes = by_rule (does now h u m.body)
+          pub request_goes : Goes ms ns n.sessions w life epoch last (Control m) (step_of clients n now (Control m)).out
+          request_goes = by_rule (does_of now h clients u m.body)
 
           -- The next request, and the last one, are answered.
           taken : h.epoch ≡ epoch → (h.number ≡ last + 1) ⊎ (h.number ≡ last) → (sv.take u h ≡ takes.Fresh) ⊎
@@ -584,10 +583,10 @@ module _ (c : ClientId) (s : ServerId) where
                   (λ d. absurd (not_both (h.number == last + 1) (eq-eqb h.number (last + 1) (next_or q b)) d))))
 
           pub request_answered : h.epoch ≡ epoch → (h.number ≡ last + 1) ⊎ (h.number ≡ last) →
-              (r : Message) × Has (outputs.Send r) (server_step n now (Control m)).out × From r × (r.header.life ≡ life) × (r.header.epoch ≡ epoch) ×
+              (r : Message) × Has (outputs.Send r) (step_of clients n now (Control m)).out × From r × (r.header.life ≡ life) × (r.header.epoch ≡ epoch) ×
               (r.header.number ≡ h.number) × (counts_for m.body r.body ≡ true)
           request_answered e q =
-              let a = step_answers n now m is_for (no_timer u.state.authority (sv.sender h) free_sender)
+              let a = step_answers_of clients n now m is_heard (no_timer u.state.authority (sv.sender h) free_sender)
               (eq-eqb h.epoch u.state.stable.epoch.0 (e ∙ ap (λ (y : sv.Stable). y.epoch.0) (sym z.stable))) serves (taken e q) in (
                 record { header = sv.reply_header u.state h; body = a.reply },
                 a.sent,

@@ -1,7 +1,7 @@
 -- A step of the server keeps what is known of its healthy client's association.
 use Rattle.st_lemmas.proofs.Words
 use Words.{◌≡◌, ◌≢◌, ℕ, ◌+◌, ◌≤◌, ◌<◌, ◌⊎◌, Bool, true, false, ◌==◌, List, [], ◌∷◌, ◌++◌, Option, Some, None, refl, sym, ap, ◌∙◌, subst, inl, inr, arith, suc}
-use Words.{zero, eq-eqb, Config, ClientId, Epoch, ServerId, Stamp, Message, Output, Request, ServerInput}
+use Words.{zero, eq-eqb, le-leb, nat_le, Config, ClientId, Epoch, ServerId, Stamp, Message, Output, Request, ServerInput}
 use Words.events
 use Words.bodies as bd
 use Words.outputs
@@ -11,7 +11,7 @@ use Words.Authority.{may_ack}
 use Words.ClientState.{Association, ClientSession}
 use Words.Keys.{server_node}
 use Words.Safety.{Step}
-use Words.Server.{ServerState, server_step}
+use Words.Server.{ServerState, ServerTurn, is_client_node, server_step}
 use Words.World.{World, numbered}
 use Words.Lists.{Has}
 use Words.Lookups.{or_right}
@@ -27,6 +27,8 @@ use Rattle.st_laws_healthy.proofs.Served.{Comes, From, Goes, Greets, IsAsked, Is
 use Rattle.st_laws_healthy.proofs.Served.{other_goes, request_answered, request_goes, seen_goes, tick_goes, told_more}
 use Rattle.st_laws_healthy.proofs.Talking.{Greeted, GreetsAt, Hailed, HasSession, IsAsking, IsAsking2, IsCounting, IsOnTrip, IsTooOld, Phase, WelcomesAt}
 use Rattle.st_laws_healthy.proofs.Talking.{Requested, Talks, delivered_among, delivered_is, fly, not_delivered}
+use Rattle.st_laws_healthy.proofs.Telling.{first_step}
+use Rattle.st_trace.specs.Server.Steps.{step_of}
 use Rattle.st_laws_healthy.proofs.Trips.{Back, Begun, Flying, InTime, Out, Trip, flies_on, goes_out, takes_off, trip_began}
 
 -- A message that the server's step sent.
@@ -44,17 +46,17 @@ pub record TalksNext (k : Config) (c : ClientId) (s : ServerId) (gap d : ℕ) (r
   pub moves : (known.last ≡ last) ⊎ ((r : Message) × (i ≡ serving.Control r) × (known.last ≡ last + 1) ×
       IsRequest (Comes c s ms) c a.life.0 n.stable.epoch.0 known.last r)
 
-module _ (k : Config) (c : ClientId) (s : ServerId) (gap d : ℕ) (read : World → ℕ) (delay : ℕ) (few : c.0 ≤ 16) (some : 1 ≤ c.0) where
+module _ (k : Config) (c : ClientId) (s : ServerId) (gap d : ℕ) (read : World → ℕ) (delay : ℕ) (few : c.0 ≤ 64) (clients : ℕ → Bool) (heard : clients c.0 ≡ true) where
   module _ (past : List Step) (x : Step) (w : World) (ns : List Message) (more : (m : Message) → Has m (messages w) → Has m ns)
       (keeps : (i : ℕ) (m : Message) → numbered (messages w) i ≡ Some m → numbered ns i ≡ Some m) (now : ℕ) (clock : client_clock c x.after.world ≡ now)
       (in_time : InTime (client_clock c) c s d past (messages w) now) (begun : Begun (client_clock c) c s d past now)
       (now2 : ℕ) (clock2 : read x.after.world ≡ now2) (in_time2 : InTime read c s delay past (messages w) now2) (begun2 : Begun read c s delay past now2)
-      (n : ServerState) (at : Stamp) (i : ServerInput) (free : may_ack n.authority c ≡ true) (still : may_ack (server_step n at i).state.authority c ≡ true)
-      (sepoch : n.sessions.epoch ≡ n.stable.epoch) (off : Rattle.st_rules.specs.Grace.is_on n.grace at ≡ false) (id : n.id ≡ s) (epoch_same : (server_step n at i).state.stable.epoch ≡
+      (n : ServerState) (at : Stamp) (i : ServerInput) (free : may_ack n.authority c ≡ true) (still : may_ack (step_of clients n at i).state.authority c ≡ true)
+      (sepoch : n.sessions.epoch ≡ n.stable.epoch) (off : Rattle.st_rules.specs.Grace.is_on n.grace at ≡ false) (id : n.id ≡ s) (epoch_same : (step_of clients n at i).state.stable.epoch ≡
       n.stable.epoch)
       (brings : BringsServer w x.event (server_node s) i) (deaf : Deaf w x.event c.0)
-      (new : (m : Message) → Has m ns → Has m (messages w) ⊎ IsSaid s x ns (server_step n at i).out m)
-      (says : (m : Message) → Has (outputs.Send m) (server_step n at i).out → IsSaid s x ns (server_step n at i).out m) where
+      (new : (m : Message) → Has m ns → Has m (messages w) ⊎ IsSaid s x ns (step_of clients n at i).out m)
+      (says : (m : Message) → Has (outputs.Send m) (step_of clients n at i).out → IsSaid s x ns (step_of clients n at i).out m) where
     abbrev ms : List Message
     ms = messages w
 
@@ -62,7 +64,7 @@ module _ (k : Config) (c : ClientId) (s : ServerId) (gap d : ℕ) (read : World 
     past2 = past ++ x ∷ []
 
     abbrev n2 : ServerState
-    n2 = (server_step n at i).state
+    n2 = (step_of clients n at i).state
 
     abbrev epoch : ℕ
     epoch = n.stable.epoch.0
@@ -71,7 +73,7 @@ module _ (k : Config) (c : ClientId) (s : ServerId) (gap d : ℕ) (read : World 
     old_to : (m : Message) → Has m ns → To c s m → Has m ms
     old_to m h f = go (new m h)
       where
-        go : Has m ms ⊎ IsSaid s x ns (server_step n at i).out m → Has m ms
+        go : Has m ms ⊎ IsSaid s x ns (step_of clients n at i).out m → Has m ms
         go (inl j) = j
         go (inr z) = let y = z.from in let q = f.from in absurd (omega (arith, y, q, few))
 
@@ -81,7 +83,7 @@ module _ (k : Config) (c : ClientId) (s : ServerId) (gap d : ℕ) (read : World 
     flies_back f g P from y way = fly k c s gap d past x w ns more keeps f g P P from c.0 y (λ h. h) (way y.message y.like).to deaf
 
     -- a message of the server to the client that the step sent takes off
-    back : (f : World → ℕ) (g shown : ℕ) → f x.after.world ≡ shown → (P : Message → Type 0) (m : Message) → Has (outputs.Send m) (server_step n at i).out →
+    back : (f : World → ℕ) (g shown : ℕ) → f x.after.world ≡ shown → (P : Message → Type 0) (m : Message) → Has (outputs.Send m) (step_of clients n at i).out →
         From c s m → P m → Flying f c s g past2 ns P shown
     back f g shown shows P m h y p =
         let z = says m h in
@@ -108,7 +110,7 @@ module _ (k : Config) (c : ClientId) (s : ServerId) (gap d : ℕ) (read : World 
       life = a.life.0
 
       abbrev G : Type 0
-      G = Goes c s ms ns n.sessions n2.sessions life epoch t.last i (server_step n at i).out
+      G = Goes c s ms ns n.sessions n2.sessions life epoch t.last i (step_of clients n at i).out
 
       -- two requests under one number are the same
       one : (y z : Message) (number : ℕ) → 1 ≤ number → IsRequest (Comes c s ms) c life epoch number y → IsRequest (Comes c s ms) c life epoch number z →
@@ -129,32 +131,32 @@ module _ (k : Config) (c : ClientId) (s : ServerId) (gap d : ℕ) (read : World 
 
       -- what the step does for the life
       goes_by : (j : ServerInput) → i ≡ j → BringsServer w x.event (server_node s) j → G
-      goes_by serving.Tick is b = subst (λ j. Goes c s ms ns n.sessions (server_step n at j).state.sessions life epoch t.last j (server_step n at j).out)
-          (sym is) (tick_goes c s ms ns more n at life t.last free sepoch t.known)
+      goes_by serving.Tick is b = subst (λ j. Goes c s ms ns n.sessions (step_of clients n at j).state.sessions life epoch t.last j (step_of clients n at j).out)
+          (sym is) (tick_goes c s clients ms ns more n at life t.last free sepoch t.known)
       goes_by (serving.Control m) is b =
-          subst (λ j. Goes c s ms ns n.sessions (server_step n at j).state.sessions life epoch t.last j (server_step n at j).out) (sym is)
+          subst (λ j. Goes c s ms ns n.sessions (step_of clients n at j).state.sessions life epoch t.last j (step_of clients n at j).out) (sym is)
           (go (same_or_not m.header.from c.0))
         where
           GM : Type 0
-          GM = Goes c s ms ns n.sessions (server_step n at (serving.Control m)).state.sessions life epoch t.last (serving.Control m) (server_step n at (serving.Control m)).out
+          GM = Goes c s ms ns n.sessions (step_of clients n at (serving.Control m)).state.sessions life epoch t.last (serving.Control m) (step_of clients n at (serving.Control m)).out
 
           among : Has m ms
           among = delivered_among k c s gap d past x w ns more keeps m b.0
 
-          still_m : may_ack (server_step n at (serving.Control m)).state.authority c ≡ true
-          still_m = subst (λ j. may_ack (server_step n at j).state.authority c ≡ true) is still
+          still_m : may_ack (step_of clients n at (serving.Control m)).state.authority c ≡ true
+          still_m = subst (λ j. may_ack (step_of clients n at j).state.authority c ≡ true) is still
 
           present : m.header.from ≡ c.0 → m.header.life ≡ life → IsAsked c s now m → GM
-          present f l (Greets e q) = hello_goes c s ms ns more n at life t.last free sepoch t.known m among b.1 few some id f l e off still_m
-          present f l (Sees q) = seen_goes c s ms ns more n at life t.last free sepoch t.known m among b.1 few some id f l q
+          present f l (Greets e q) = hello_goes c s clients ms ns more n at life t.last free sepoch t.known m among b.1 heard id f l e off still_m
+          present f l (Sees q) = seen_goes c s clients ms ns more n at life t.last free sepoch t.known m among b.1 heard id f l q
           present f l (Requests p q r) =
-              request_goes c s ms ns more n at life t.last free sepoch t.known m among b.1 few some id f l p q
+              request_goes c s clients ms ns more n at life t.last free sepoch t.known m among b.1 heard id f l p q
               (has_served m among (record { from = f; to = b.1 }) l p) one
 
           of_life : m.header.from ≡ c.0 → (m.header.life ≡ life) ⊎ (m.header.life ≢ life) → GM
           of_life f (inl l) = present f l (t.asked m among (record { from = f; to = b.1 }) l)
           of_life f (inr ne) =
-              other_goes c s ms ns more n at life t.last free sepoch t.known m among b.1 few some id
+              other_goes c s clients ms ns more n at life t.last free sepoch t.known m among b.1 heard id
               (inr (let l = numbers.lives m among (f, b.1) in not_same l ne))
             where
               not_same : m.header.life ≤ life → m.header.life ≢ life → m.header.life < life
@@ -169,7 +171,7 @@ module _ (k : Config) (c : ClientId) (s : ServerId) (gap d : ℕ) (read : World 
 
           go : (m.header.from ≡ c.0) ⊎ (m.header.from ≢ c.0) → GM
           go (inl f) = of_life f (same_or_not m.header.life life)
-          go (inr ne) = other_goes c s ms ns more n at life t.last free sepoch t.known m among b.1 few some id (inl ne)
+          go (inr ne) = other_goes c s clients ms ns more n at life t.last free sepoch t.known m among b.1 heard id (inl ne)
 
       goes : G
       goes = goes_by i refl brings
@@ -177,7 +179,7 @@ module _ (k : Config) (c : ClientId) (s : ServerId) (gap d : ℕ) (read : World 
       -- A trip goes on, or turns back.
       module _ (f : World → ℕ) (g shown : ℕ) (shows : f x.after.world ≡ shown) (timely : InTime f c s g past ms shown) (past_it : Begun f c s g past shown)
           (A B : Message → Type 0) (from : ℕ) (to : (m : Message) → A m → To c s m) (way : (m : Message) → B m → From c s m)
-          (turns : (m : Message) → Has m ms → A m → i ≡ serving.Control m → (r : Message) × Has (outputs.Send r) (server_step n at i).out × B r) where
+          (turns : (m : Message) → Has m ms → A m → i ≡ serving.Control m → (r : Message) × Has (outputs.Send r) (step_of clients n at i).out × B r) where
         goes_on : Trip f c s g past ms A B from → Trip f c s g past2 ns A B from
         goes_on (Back y l r p) = Back y l r (flies_back f g B y p way)
         goes_on (Out p) = go (brought i brings p.number p.message p.there (to p.message p.like).to)
@@ -191,16 +193,16 @@ module _ (k : Config) (c : ClientId) (s : ServerId) (gap d : ℕ) (read : World 
 
       -- a greeting is answered with a welcome
       welcomes : (stamp : ℕ) (m : Message) → Has m ms → GreetsAt k c s gap d life stamp m → i ≡ serving.Control m →
-          (r : Message) × Has (outputs.Send r) (server_step n at i).out × WelcomesAt k c s gap d life stamp r
-      welcomes stamp m h g is = subst (λ j. (r : Message) × Has (outputs.Send r) (server_step n at j).out × WelcomesAt k c s gap d life stamp r) (sym is)
+          (r : Message) × Has (outputs.Send r) (step_of clients n at i).out × WelcomesAt k c s gap d life stamp r
+      welcomes stamp m h g is = subst (λ j. (r : Message) × Has (outputs.Send r) (step_of clients n at j).out × WelcomesAt k c s gap d life stamp r) (sym is)
           (z.0, z.1, record { is = record { way = z.2; of_life = z.3; body = z.4 }; at = z.5 ∙ g.at })
         where
-          still_m : may_ack (server_step n at (serving.Control m)).state.authority c ≡ true
-          still_m = subst (λ j. may_ack (server_step n at j).state.authority c ≡ true) is still
+          still_m : may_ack (step_of clients n at (serving.Control m)).state.authority c ≡ true
+          still_m = subst (λ j. may_ack (step_of clients n at j).state.authority c ≡ true) is still
 
-          z : (r : Message) × Has (outputs.Send r) (server_step n at (serving.Control m)).out × From c s r × (r.header.life ≡ life) ×
+          z : (r : Message) × Has (outputs.Send r) (step_of clients n at (serving.Control m)).out × From c s r × (r.header.life ≡ life) ×
               (r.body ≡ bd.Welcome) × (r.header.stamp ≡ m.header.stamp)
-          z = hello_answered c s ms ns more n at life t.last free sepoch t.known m h g.is.way.to few some id g.is.way.from g.is.of_life g.is.body off still_m
+          z = hello_answered c s clients ms ns more n at life t.last free sepoch t.known m h g.is.way.to heard id g.is.way.from g.is.of_life g.is.body off still_m
 
       hailed : (stamp : ℕ) → Hailed k c s gap d past ms life stamp → Hailed k c s gap d past2 ns life stamp
       hailed stamp (IsOnTrip trip) =
@@ -218,10 +220,10 @@ module _ (k : Config) (c : ClientId) (s : ServerId) (gap d : ℕ) (read : World 
 
         answers : (q : Request) → z.requests.asked ≡ Some q → IsAsking2 k c s gap d read delay since past ms life epoch t.last z.lease.date.0 z.requests.next q →
             (m : Message) → Has m ms →
-            IsAsking k c s gap d life epoch q.number q.body m → i ≡ serving.Control m → (r : Message) × Has (outputs.Send r) (server_step n at i).out ×
+            IsAsking k c s gap d life epoch q.number q.body m → i ≡ serving.Control m → (r : Message) × Has (outputs.Send r) (step_of clients n at i).out ×
             IsCounting k c s gap d life epoch q.number q.body r
         answers q f r m h g is =
-            subst (λ j. (r : Message) × Has (outputs.Send r) (server_step n at j).out × IsCounting k c s gap d life epoch q.number q.body r) (sym is) (
+            subst (λ j. (r : Message) × Has (outputs.Send r) (step_of clients n at j).out × IsCounting k c s gap d life epoch q.number q.body r) (sym is) (
               y.0,
               y.1,
               record {
@@ -259,10 +261,10 @@ module _ (k : Config) (c : ClientId) (s : ServerId) (gap d : ℕ) (read : World 
                             only true q = let y = Rattle.std.proofs.lemmas.Bool.ltb-true t.last m.header.number q in none (omega (arith, y, b))
                             only false q = let y = Rattle.std.proofs.lemmas.Bool.ltb-false t.last m.header.number q in ne (omega (arith, y, a))
 
-            y : (r : Message) × Has (outputs.Send r) (server_step n at (serving.Control m)).out × From c s r × (r.header.life ≡ life) ×
+            y : (r : Message) × Has (outputs.Send r) (step_of clients n at (serving.Control m)).out × From c s r × (r.header.life ≡ life) ×
                 (r.header.epoch ≡ epoch) × (r.header.number ≡ m.header.number) × (counts_for m.body r.body ≡ true)
             y =
-                request_answered c s ms ns more n at life t.last free sepoch t.known m h g.way.to few some id g.way.from g.of_life pos
+                request_answered c s clients ms ns more n at life t.last free sepoch t.known m h g.way.to heard id g.way.from g.of_life pos
                 (ap is_served g.says ∙ r.served) p.served one g.of_epoch place
 
         -- the server serves no number that was not given
@@ -340,8 +342,8 @@ module _ (k : Config) (c : ClientId) (s : ServerId) (gap d : ℕ) (read : World 
       phase (Some z) e p = has_session z e p
 
       -- what is known after the step
-      pub serves_on : TalksNext k c s gap d read delay since past2 ns i n2 now a t.last
-      serves_on =
+      pub serves_on_of : TalksNext k c s gap d read delay since past2 ns i n2 now a t.last
+      serves_on_of =
           record {
             known = record {
               last = goes.next;
@@ -356,6 +358,33 @@ module _ (k : Config) (c : ClientId) (s : ServerId) (gap d : ℕ) (read : World 
                 IsRequest (Comes c s ns) c life y.0 goes.next r)) (sym epoch_same) goes.given;
           }
         where
-          told : (m : Message) → From c s m → Has m ms ⊎ IsSaid s x ns (server_step n at i).out m → IsTold c s ns n2.sessions life epoch goes.next m
+          told : (m : Message) → From c s m → Has m ms ⊎ IsSaid s x ns (step_of clients n at i).out m → IsTold c s ns n2.sessions life epoch goes.next m
           told m f (inl h) = told_more c s ms ns more n.sessions n2.sessions life epoch t.last goes.next goes.grows goes.served m (t.told m h f)
           told m f (inr z) = goes.told m z.among f
+
+-- A server of the first two forms.
+module _ (k : Config) (c : ClientId) (s : ServerId) (gap d : ℕ) (read : World → ℕ) (delay : ℕ) (few : c.0 ≤ 16) (some : 1 ≤ c.0) where
+  heard : is_client_node c.0 ≡ true
+  heard = and_both (nat_le 1 c.0) (nat_le c.0 16) (le-leb 1 c.0 some) (le-leb c.0 16 few)
+
+  module _ (past : List Step) (x : Step) (w : World) (ns : List Message) (more : (m : Message) → Has m (messages w) → Has m ns)
+      (keeps : (i : ℕ) (m : Message) → numbered (messages w) i ≡ Some m → numbered ns i ≡ Some m) (now : ℕ) (clock : client_clock c x.after.world ≡ now)
+      (in_time : InTime (client_clock c) c s d past (messages w) now) (begun : Begun (client_clock c) c s d past now)
+      (now2 : ℕ) (clock2 : read x.after.world ≡ now2) (in_time2 : InTime read c s delay past (messages w) now2) (begun2 : Begun read c s delay past now2)
+      (n : ServerState) (at : Stamp) (i : ServerInput) (free : may_ack n.authority c ≡ true) where
+    -- what holds of this turn after its step
+    abbrev Serves : ServerTurn → Type 0
+    Serves u =
+        may_ack u.state.authority c ≡ true → n.sessions.epoch ≡ n.stable.epoch → Rattle.st_rules.specs.Grace.is_on n.grace at ≡ false → n.id ≡ s →
+        u.state.stable.epoch ≡ n.stable.epoch → BringsServer w x.event (server_node s) i → Deaf w x.event c.0 →
+        ((m : Message) → Has m ns → Has m (messages w) ⊎ IsSaid s x ns u.out m) → ((m : Message) → Has (outputs.Send m) u.out → IsSaid s x ns u.out m) →
+        (since : ℕ) (a : Association) (t : Talks k c s gap d read delay since past (messages w) n now a) →
+        Numbers (λ m. Has m (messages w)) c s a.life.0 (view a.session) →
+        TalksNext k c s gap d read delay since (past ++ x ∷ []) ns i u.state now a t.last
+
+    pub serves_on : Serves (server_step n at i)
+    serves_on =
+        subst Serves (first_step n at i)
+        (λ still sepoch off id epoch_same brings deaf new says since a t numbers.
+        serves_on_of k c s gap d read delay (omega (arith, few)) is_client_node heard past x w ns more keeps now clock in_time begun now2 clock2 in_time2 begun2
+        n at i free still sepoch off id epoch_same brings deaf new says since a t numbers)

@@ -9,6 +9,7 @@ use Words.why
 use Words.notes
 use Words.outputs
 use Words.hellos
+use Words.serving.{Control}
 use Words.takes
 use Words.Authority as authority
 use Words.Grace as grace
@@ -23,6 +24,7 @@ use Words.Lookups.{some_is}
 use Words.Tables.{cond_either, has_append}
 use Words.Truth.{not_both}
 use Rattle.st_rules.specs.declared.authority.AcceptRefusal.TheVariants as refusals
+use Rattle.st_trace.specs.Server.Steps.{hears, take_of}
 use Rattle.st_laws_healthy.proofs.Replies.{Counts, GetsReply, Noted, counts_for, is_served}
 use Rattle.st_laws_healthy.proofs.Replying.{rule_replies}
 
@@ -331,12 +333,19 @@ module _ (now : Stamp) (h : Header) where
   does_by_suspicion t b None e = does_by_body t b
   does_by_suspicion t b (Some start) e = does_refuse t start b e
 
+  does_from : (t : ServerTurn) (b : Body) → Does t b (sv.receive_from t now h b)
+  unfolding sv.receive_from
+  does_from t b = does_by_suspicion t b (authority.started t.state.authority (sv.sender h)) refl
+
   -- what any message does
   pub does : (t : ServerTurn) (b : Body) → Does t b (sv.receive t now h b)
-  unfolding sv.receive sv.receive_from
-  does t b =
-      cond_either (Does t b) (sv.is_for t.state h) (sv.receive_from t now h b) t (λ e. does_by_suspicion t b (authority.started t.state.authority (sv.sender h))
-      refl) (λ e. Passes refl refl)
+  unfolding sv.receive
+  does t b = cond_either (Does t b) (sv.is_for t.state h) (sv.receive_from t now h b) t (λ e. does_from t b) (λ e. Passes refl refl)
+
+  -- and at a server that hears these nodes
+  pub does_of : (clients : ℕ → Bool) (t : ServerTurn) (b : Body) → Does t b (take_of clients t now (Control (record { header = h; body = b })))
+  does_of clients t b =
+      cond_either (Does t b) (hears clients t.state h) (sv.receive_from t now h b) t (λ e. does_from t b) (λ e. Passes refl refl)
 
   -- What is sent in answer.
   pub data IsReply (t : ServerTurn) (b : Body) (x : Body) : Type 0 where

@@ -18,9 +18,10 @@ use Words.Lists.{Has}
 use Words.Tables.{cond_either, has_append}
 use Words.Members.{has_left}
 use Words.Truth.{not_both}
+use Rattle.st_trace.specs.Server.Steps.{hears, step_of, take_of}
 use Rattle.st_laws_healthy.proofs.Replies.{counts_for, is_served}
 use Rattle.st_laws_healthy.proofs.Replying.{IsAnswered, taken_answered}
-use Rattle.st_laws_healthy.proofs.Serving.{Answers, does, no_note, sent_is, sent_same}
+use Rattle.st_laws_healthy.proofs.Serving.{Answers, does_of, no_note, sent_is, sent_same}
 use Rattle.st_laws_waits.proofs.Edits.{more_suspects}
 
 -- a grant or a demand
@@ -164,41 +165,54 @@ unfolding thefts
 quiet n now m h = thefts_quiet_of (authority.over n.authority now) (sv.with_authority (authority.still_running n.authority now) (turn n []))
     (λ m h. elim h [ ]) m h
 
--- A step by a message.
-pub step_sends : (n : ServerState) (now : Stamp) (m r : Message) → Has (outputs.Send r) (server_step n now (Control m)).out →
-    IsUnasked r ⊎ Answers now m.header (thefts (turn n []) now) m.body r
-unfolding server_step take_input
-step_sends n now m r h = go ((passes_tell (sv.receive u now m.header m.body) now (Control m)).sends r h)
-  where
-    u : ServerTurn
-    u = thefts (turn n []) now
+-- At a server that hears these nodes as clients.
+module _ (clients : ℕ → Bool) where
+  -- A step by a message.
+  pub step_sends_of : (n : ServerState) (now : Stamp) (m r : Message) → Has (outputs.Send r) (step_of clients n now (Control m)).out →
+      IsUnasked r ⊎ Answers now m.header (thefts (turn n []) now) m.body r
+  step_sends_of n now m r h = go ((passes_tell (take_of clients u now (Control m)) now (Control m)).sends r h)
+    where
+      u : ServerTurn
+      u = thefts (turn n []) now
 
-    by : Has (outputs.Send r) u.out ⊎ Answers now m.header u m.body r → IsUnasked r ⊎ Answers now m.header u m.body r
-    by (inl j) = absurd (quiet n now r j)
-    by (inr a) = inr a
+      by : Has (outputs.Send r) u.out ⊎ Answers now m.header u m.body r → IsUnasked r ⊎ Answers now m.header u m.body r
+      by (inl j) = absurd (quiet n now r j)
+      by (inr a) = inr a
 
-    go : Has (outputs.Send r) (sv.receive u now m.header m.body).out ⊎ IsUnasked r → IsUnasked r ⊎ Answers now m.header u m.body r
-    go (inl j) = by (sent_is now m.header u (sv.receive u now m.header m.body) m.body (does now m.header u m.body) r j)
-    go (inr e) = inl e
+      go : Has (outputs.Send r) (take_of clients u now (Control m)).out ⊎ IsUnasked r → IsUnasked r ⊎ Answers now m.header u m.body r
+      go (inl j) = by (sent_is now m.header u (take_of clients u now (Control m)) m.body (does_of now m.header clients u m.body) r j)
+      go (inr e) = inl e
 
--- A step by a tick.
-pub tick_sends : (n : ServerState) (now : Stamp) (r : Message) → Has (outputs.Send r) (server_step n now Tick).out → IsUnasked r
-unfolding server_step take_input
-tick_sends n now r h = go ((passes_tell (thefts (turn n []) now) now Tick).sends r h)
-  where
-    go : Has (outputs.Send r) (thefts (turn n []) now).out ⊎ IsUnasked r → IsUnasked r
-    go (inl j) = absurd (quiet n now r j)
-    go (inr e) = e
+  -- A step by a tick.
+  pub tick_sends_of : (n : ServerState) (now : Stamp) (r : Message) → Has (outputs.Send r) (step_of clients n now Tick).out → IsUnasked r
+  tick_sends_of n now r h = go ((passes_tell (thefts (turn n []) now) now Tick).sends r h)
+    where
+      go : Has (outputs.Send r) (thefts (turn n []) now).out ⊎ IsUnasked r → IsUnasked r
+      go (inl j) = absurd (quiet n now r j)
+      go (inr e) = e
 
--- the sessions after a step are those after its message's rule, or after the thefts
-pub step_sessions : (n : ServerState) (now : Stamp) (m : Message) →
-    (server_step n now (Control m)).state.sessions ≡ (sv.receive (thefts (turn n []) now) now m.header m.body).state.sessions
-unfolding server_step take_input
-step_sessions n now m = (passes_tell (sv.receive (thefts (turn n []) now) now m.header m.body) now (Control m)).sessions
+  -- the sessions after a step are those after its message's rule, or after the thefts
+  pub step_sessions_of : (n : ServerState) (now : Stamp) (m : Message) →
+      (step_of clients n now (Control m)).state.sessions ≡ (take_of clients (thefts (turn n []) now) now (Control m)).state.sessions
+  step_sessions_of n now m = (passes_tell (take_of clients (thefts (turn n []) now) now (Control m)) now (Control m)).sessions
 
-pub tick_sessions : (n : ServerState) (now : Stamp) → (server_step n now Tick).state.sessions ≡ (thefts (turn n []) now).state.sessions
-unfolding server_step take_input
-tick_sessions n now = (passes_tell (thefts (turn n []) now) now Tick).sessions
+  pub tick_sessions_of : (n : ServerState) (now : Stamp) → (step_of clients n now Tick).state.sessions ≡ (thefts (turn n []) now).state.sessions
+  tick_sessions_of n now = (passes_tell (thefts (turn n []) now) now Tick).sessions
+
+  -- whoever isn't a suspect after a step wasn't one after its message's rule
+  pub step_free_of : (n : ServerState) (now : Stamp) (m : Message) (c : ClientId) →
+      authority.may_ack (step_of clients n now (Control m)).state.authority c ≡ true →
+      authority.may_ack (take_of clients (thefts (turn n []) now) now (Control m)).state.authority c ≡ true
+  step_free_of n now m c = (passes_tell (take_of clients (thefts (turn n []) now) now (Control m)) now (Control m)).free c
+
+  -- what a step by a message says, its rule said, or nobody asked for it; and what the rule said is said
+  pub step_says_of : (n : ServerState) (now : Stamp) (m r : Message) → Has (outputs.Send r) (step_of clients n now (Control m)).out →
+      Has (outputs.Send r) (take_of clients (thefts (turn n []) now) now (Control m)).out ⊎ IsUnasked r
+  step_says_of n now m r h = (passes_tell (take_of clients (thefts (turn n []) now) now (Control m)) now (Control m)).sends r h
+
+  pub step_grows_of : (n : ServerState) (now : Stamp) (m : Message) (o : Output) →
+      Has o (take_of clients (thefts (turn n []) now) now (Control m)).out → Has o (step_of clients n now (Control m)).out
+  step_grows_of n now m o h = (passes_tell (take_of clients (thefts (turn n []) now) now (Control m)) now (Control m)).grows o h
 
 -- A request that a session serves is dispatched to it.
 by_served : (t : ServerTurn) (now : Stamp) (h : Header) (b : Body) → is_served b ≡ true → sv.by_body t now h b ≡ sv.of_epoch t now h b
@@ -225,20 +239,20 @@ request_served t now h b e = cc
 
 -- A request of the present epoch, of a client that isn't a suspect, is answered in the step that receives it, if it is its session's next one, or the last
 -- one, whose kept reply counts for it.
-pub step_answers : (n : ServerState) (now : Stamp) (m : Message) → sv.is_for (thefts (turn n []) now).state m.header ≡ true →
+pub step_answers_of : (clients : ℕ → Bool) (n : ServerState) (now : Stamp) (m : Message) → hears clients (thefts (turn n []) now).state m.header ≡ true →
     authority.started (thefts (turn n []) now).state.authority (sv.sender m.header) ≡ None →
     (m.header.epoch == (thefts (turn n []) now).state.stable.epoch.0) ≡ true →
     is_served m.body ≡ true →
     (sv.take (thefts (turn n []) now) m.header ≡ takes.Fresh) ⊎ ((x : Body) × (sv.take (thefts (turn n []) now) m.header ≡ takes.Again x) ×
     (counts_for m.body x ≡ true)) →
-    IsAnswered now m.header (thefts (turn n []) now) m.body (server_step n now (Control m)).out
-unfolding server_step take_input sv.receive sv.receive_from sv.by_suspicion sv.of_epoch
-step_answers n now m for free epoch served k =
+    IsAnswered now m.header (thefts (turn n []) now) m.body (step_of clients n now (Control m)).out
+unfolding sv.receive_from sv.by_suspicion sv.of_epoch
+step_answers_of clients n now m for free epoch served k =
     let z = received in
     record {
       reply = z.reply;
       counts = z.counts;
-      sent = (passes_tell (sv.receive u now m.header m.body) now (Control m)).grows (outputs.Send
+      sent = (passes_tell (take_of clients u now (Control m)) now (Control m)).grows (outputs.Send
           (record { header = sv.reply_header u.state m.header; body = z.reply })) z.sent;
     }
   where
@@ -254,25 +268,33 @@ step_answers n now m for free epoch served k =
         (λ e. subst A (sym (request_served u now m.header m.body served)) (taken_answered now m.header u m.body served (sv.take u m.header) k))
         (λ e. absurd (not_both (m.header.epoch == u.state.stable.epoch.0) epoch e))
 
-    received : A (sv.receive u now m.header m.body)
+    received : A (take_of clients u now (Control m))
     received =
-        cond_either A (sv.is_for u.state m.header) (sv.receive_from u now m.header m.body) u
+        cond_either A (hears clients u.state m.header) (sv.receive_from u now m.header m.body) u
         (λ e. subst (λ o. A (sv.by_suspicion u now m.header m.body o)) (sym free) (subst A (sym (by_served u now m.header m.body served)) asked))
-        (λ e. absurd (not_both (sv.is_for u.state m.header) for e))
+        (λ e. absurd (not_both (hears clients u.state m.header) for e))
 
--- whoever isn't a suspect after a step wasn't one after its message's rule
-pub step_free : (n : ServerState) (now : Stamp) (m : Message) (c : ClientId) → authority.may_ack (server_step n now (Control m)).state.authority c ≡ true →
-    authority.may_ack (sv.receive (thefts (turn n []) now) now m.header m.body).state.authority c ≡ true
-unfolding server_step take_input
-step_free n now m c = (passes_tell (sv.receive (thefts (turn n []) now) now m.header m.body) now (Control m)).free c
+-- At a server of the first two forms.
+-- its step is one that hears 16 clients
+pub first_step : (n : ServerState) (now : Stamp) (i : ServerInput) → step_of sv.is_client_node n now i ≡ server_step n now i
+unfolding server_step take_input sv.receive
+first_step n now Tick = refl
+first_step n now (Control m) = refl
 
--- what a step by a message says, its rule said, or nobody asked for it; and what the rule said is said
-pub step_says : (n : ServerState) (now : Stamp) (m r : Message) → Has (outputs.Send r) (server_step n now (Control m)).out →
-    Has (outputs.Send r) (sv.receive (thefts (turn n []) now) now m.header m.body).out ⊎ IsUnasked r
-unfolding server_step take_input
-step_says n now m r h = (passes_tell (sv.receive (thefts (turn n []) now) now m.header m.body) now (Control m)).sends r h
+pub step_sends : (n : ServerState) (now : Stamp) (m r : Message) → Has (outputs.Send r) (server_step n now (Control m)).out →
+    IsUnasked r ⊎ Answers now m.header (thefts (turn n []) now) m.body r
+unfolding server_step take_input sv.receive
+step_sends n now m r h = step_sends_of sv.is_client_node n now m r h
 
-pub step_grows : (n : ServerState) (now : Stamp) (m : Message) (o : Output) → Has o (sv.receive (thefts (turn n []) now) now m.header m.body).out →
-    Has o (server_step n now (Control m)).out
+pub tick_sends : (n : ServerState) (now : Stamp) (r : Message) → Has (outputs.Send r) (server_step n now Tick).out → IsUnasked r
 unfolding server_step take_input
-step_grows n now m o h = (passes_tell (sv.receive (thefts (turn n []) now) now m.header m.body) now (Control m)).grows o h
+tick_sends n now r h = tick_sends_of sv.is_client_node n now r h
+
+pub step_sessions : (n : ServerState) (now : Stamp) (m : Message) →
+    (server_step n now (Control m)).state.sessions ≡ (sv.receive (thefts (turn n []) now) now m.header m.body).state.sessions
+unfolding server_step take_input sv.receive
+step_sessions n now m = step_sessions_of sv.is_client_node n now m
+
+pub tick_sessions : (n : ServerState) (now : Stamp) → (server_step n now Tick).state.sessions ≡ (thefts (turn n []) now).state.sessions
+unfolding server_step take_input
+tick_sessions n now = tick_sessions_of sv.is_client_node n now

@@ -130,7 +130,7 @@ module _ (k : Config) (s : ServerId) where
 -- The start of a run.
 module _ (k : Config) (m : Limits) (clients servers disks blocks : ℕ) (s : ServerId) where
   -- the server at the start
-  first : (node : ServerNode) → node_of (third_world k m clients servers disks blocks 3).world s ≡ Some node →
+  pub first : (node : ServerNode) → node_of (third_world k m clients servers disks blocks 3).world s ≡ Some node →
       node ≡ limited_node m (Rattle.st_rules.specs.World.node_at_start k servers disks blocks s.0)
   unfolding third_world fresh_world with_limits
   first node e = go (node_of (fresh_world k clients servers disks blocks 3) s) refl

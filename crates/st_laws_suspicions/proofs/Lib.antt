@@ -6,3 +6,9 @@ pub mod Clocks
 pub mod Trips
 pub mod Prompt
 pub mod Open
+mod GrantNumbers
+mod Askers
+mod NodeSteps
+mod Senders
+mod Between
+pub mod Staying

@@ -27,7 +27,7 @@ use Rattle.st_laws_suspicions.proofs.Prompt.{heard_law}
 use Rattle.st_laws_suspicions.proofs.ServerEvents.{near_node}
 
 -- an event that is a delivery in other forms is one
-delivery_is : (e : ThirdEvent) (n : ℕ) → plain_event e ≡ events.Deliver n → e ≡ third.Plain (events.Deliver n)
+pub delivery_is : (e : ThirdEvent) (n : ℕ) → plain_event e ≡ events.Deliver n → e ≡ third.Plain (events.Deliver n)
 delivery_is (third.Plain e) n q = ap third.Plain q
 delivery_is (third.Leave c s) n q = absurd (no q)
   where
@@ -36,7 +36,7 @@ delivery_is (third.Leave c s) n q = absurd (no q)
 
 -- Promises that are kept throughout a run, together.
 module _ (P Q R : ThirdPromise) (both : (past : List ThirdStep) (x : ThirdStep) → P past x → Q past x → R past x) where
-  together : (past xs : List ThirdStep) → Throughout P past xs → Throughout Q past xs → Throughout R past xs
+  pub together : (past xs : List ThirdStep) → Throughout P past xs → Throughout Q past xs → Throughout R past xs
   unfolding Throughout
   together past [] p q = tt
   together past (x ∷ xs) p q = (both past x p.0 q.0, together (past ++ x ∷ []) xs p.1 q.1)

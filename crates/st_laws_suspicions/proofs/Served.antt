@@ -311,7 +311,7 @@ module _ (clients : ℕ → Bool) (k : Config) (s : ServerId) where
       }
 
   -- One change.
-  holds_edit : (n : ServerState) (now : Stamp) (i : ServerInput) (a : Phase) (t u : ServerTurn) → EditOf clients n now i a t u →
+  pub holds_edit : (n : ServerState) (now : Stamp) (i : ServerInput) (a : Phase) (t u : ServerTurn) → EditOf clients n now i a t u →
       Holds clients k s t.state → Holds clients k s u.state
   unfolding reply tell suspect_client keep_and_reply locks.demand_seen locks.answered_row locks.demanded
   holds_edit n now i a t u (Steals _ c x o e) h = stolen t c x h

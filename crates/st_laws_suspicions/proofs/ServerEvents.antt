@@ -92,7 +92,7 @@ flush_all c state [] w = refl
 flush_all c state (s ∷ ss) w =
     flush_all c state ss (ev.flushed_at w c s state) ∙ flush_one w c s (plain.lease_end_with state s) (plain.phase_with state s (clock_of w (nodes.Client c)))
 
-took_servers : (w : ThirdWorld) (c : ClientId) (site : WorldClient) (t : ThirdClientTurn) → (every.client_took w c site t).third.world.servers ≡ w.world.servers
+pub took_servers : (w : ThirdWorld) (c : ClientId) (site : WorldClient) (t : ThirdClientTurn) → (every.client_took w c site t).third.world.servers ≡ w.world.servers
 unfolding every.client_took
 took_servers w c site t =
     let sc : ThirdWorldTurn = every.client_says_all c site.node.state t.out (unseen (every.with_client c site t.client w)) in
@@ -165,7 +165,7 @@ third_step_is n now Tick = refl
 third_step_is n now (Control m) = refl
 
 -- a step of a server of the third form is one that hears its clients
-step_is : (form : ℕ) → form ≡ 3 → (n : ServerState) (now : Stamp) (i : ServerInput) → hearing.server_step form n now i ≡ step_of C n now i
+pub step_is : (form : ℕ) → form ≡ 3 → (n : ServerState) (now : Stamp) (i : ServerInput) → hearing.server_step form n now i ≡ step_of C n now i
 step_is form e n now i = ap (λ x. hearing.server_step x n now i) e ∙ third_step_is n now i
 
 -- the node of a number, up to 64 or above
@@ -177,7 +177,7 @@ node_is form n f = ap (λ b. if nat_le n (if b then 64 else 16) then nodes.Clien
 pub near_node : (form n : ℕ) → is_third form ≡ true → n ≤ 64 → node_at form n ≡ nodes.Client (client n)
 near_node form n f l = node_is form n f ∙ ap (λ b. if b then nodes.Client (client n) else nodes.Server (world.server (n - SERVER_BASE))) (le-leb n 64 l)
 
-node_by : (form n : ℕ) → is_third form ≡ true → ((n ≤ 64) × (node_at form n ≡ nodes.Client (client n))) ⊎
+pub node_by : (form n : ℕ) → is_third form ≡ true → ((n ≤ 64) × (node_at form n ≡ nodes.Client (client n))) ⊎
     (node_at form n ≡ nodes.Server (world.server (n - SERVER_BASE)))
 node_by form n f = go (nat_le n 64) refl
   where

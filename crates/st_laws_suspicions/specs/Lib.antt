@@ -1,3 +1,4 @@
 pub mod Suspicions
 pub mod Prompt
 pub mod Open
+pub mod Staying

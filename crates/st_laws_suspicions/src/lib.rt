@@ -4,6 +4,7 @@
 
 ghost use Rattle.st_laws_suspicions.specs.Open.{OpenClientsAreHeard};
 ghost use Rattle.st_laws_suspicions.specs.Prompt.{PromptClientsAreHeard};
+ghost use Rattle.st_laws_suspicions.specs.Staying.{StayingClientsAreNotSuspected};
 ghost use Rattle.st_laws_suspicions.specs.Suspicions.{ThirdSuspicionsHaveACause};
 
 /// In every run of the third form in which a server never stops, it suspects one of its up to 64
@@ -28,4 +29,12 @@ pub fn prompt_clients_are_heard()
 /// and no lock of the file has a later grant. Then the client answers it at once.
 pub fn open_clients_are_heard()
     ensures { OpenClientsAreHeard }
+{}
+
+/// In every run of the third form, a client that stays isn't suspected. After every event it and
+/// the server run, and messages between them came in time; its lease wasn't lost in the event, and
+/// its life at the server didn't end because it left. If two trips take less than the demand time,
+/// the server never suspects it, however many of its locks are demanded at once.
+pub fn staying_clients_are_not_suspected()
+    ensures { StayingClientsAreNotSuspected }
 {}

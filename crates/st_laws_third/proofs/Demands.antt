@@ -19,7 +19,7 @@ use Rattle.st_third.specs.Client as client
 use Rattle.st_third.specs.Leave as leaving
 use Rattle.st_third.specs.Replies as third
 use Rattle.st_third.specs.State.{Beside, ThirdClientTurn, ThirdTurn, all_said, at_each, at_these, enter, leave, plain_output, plainly, session, third_turn}
-use Rattle.st_laws_third.specs.Changes.{ThirdChanges, ThirdLeaves, ThirdLoses, ThirdPasses, HasLeft, IsLost, Lasts, Stays, with_plain}
+use Rattle.st_laws_third.specs.Changes.{Heard, ThirdChanges, ThirdLeaves, ThirdLoses, ThirdPasses, HasLeft, IsLost, Lasts, Stays, with_plain}
 use Rattle.st_laws_third.specs.Demands.{EveryDemandIsAnswered, IsInTime, demand_seen}
 use Rattle.st_laws_third.specs.Pairs.{IsPaired}
 use Rattle.st_laws_third.proofs.Chains.{left_has, right_has}
@@ -32,7 +32,7 @@ use Rattle.st_laws_third.proofs.Stepping.{Stepped, changed, each_goes, loses_it,
 
 -- What was said stays said.
 
-changes_keep : (now : Stamp) (o : ThirdOutput) (t u : ThirdTurn) → ThirdChanges now t u → Has o (all_said t) → Has o (all_said u)
+changes_keep : {got : Heard} (now : Stamp) (o : ThirdOutput) (t u : ThirdTurn) → ThirdChanges got now t u → Has o (all_said t) → Has o (all_said u)
 changes_keep now o t u cs h = let n = changes_third now t u cs in subst (Has o) (sym n.said) (left_has (all_said t) n.more o h)
 
 leaves_keep : (now : Stamp) (o : ThirdOutput) (t u : ThirdTurn) → ThirdLeaves now t u → Has o (all_said t) → Has o (all_said u)

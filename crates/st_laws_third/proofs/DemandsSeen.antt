@@ -111,7 +111,7 @@ module _ (w v : ThirdWorld) (so : Sound w) (p : People w) (c : ClientId) (old ne
         servers = subst (λ (x : ClientState). (a : Association) → Has a x.associations → 1 ≤ a.server.0) (sym u) (λ a h. (g a h).1);
       }
 
-people_after : (w v : ThirdWorld) → Sound w → People w → Moved w v → People v
+pub people_after : (w v : ThirdWorld) → Sound w → People w → Moved w v → People v
 people_after w v so p (Rests q k r) =
     record {
       asks = λ n site e. p.asks n site (sym (ap (λ xs. numbered xs n) q) ∙ e);
@@ -163,7 +163,7 @@ life_found k now s (x ∷ xs) (y ∷ ys) p q a e f = go (is_at s x) (is_at s y) 
 
 -- At the start.
 
-numbers_get : (a count n i : ℕ) → slice_get (numbers a count) n ≡ Some i → i ≡ a + n
+pub numbers_get : (a count n i : ℕ) → slice_get (numbers a count) n ≡ Some i → i ≡ a + n
 unfolding numbers
 numbers_get a zero n i e = cc e
 numbers_get a (suc count) zero i e = let z = some_is e in omega (arith, z)
@@ -279,16 +279,16 @@ unheld w h ino c s e = of_site (site_of w.world c) refl e
 -- The client takes the message.
 module _ (w : ThirdWorld) (so : Sound w) (c : ClientId) (site : WorldClient) (there : site_of w.world c ≡ Some site) (runs : site.node.running ≡ true)
     (message : Message) where
-  abbrev Input : ThirdInput
+  abbrev pub Input : ThirdInput
   Input = takes.Plain (inputs.Control message)
 
-  abbrev Beside : ClientBeside
+  abbrev pub Beside : ClientBeside
   Beside = (so.fits.there c.0 site there).0
 
-  abbrev Taken : ThirdClientTurn
+  abbrev pub Taken : ThirdClientTurn
   Taken = client_step w.limits (every.third_client site Beside) (clock_of w.world (nodes.Client c)) Input
 
-  delivered_is : every.delivers_to w message (nodes.Client c) ≡ every.client_took w c site Taken
+  pub delivered_is : every.delivers_to w message (nodes.Client c) ≡ every.client_took w c site Taken
   unfolding every.delivers_to every.at_client every.client_takes every.running_takes every.third_takes
   delivered_is =
       ap (every.at_client w c Input) there

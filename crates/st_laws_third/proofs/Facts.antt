@@ -3,7 +3,7 @@
 use Rattle.st_lemmas.proofs.Words
 use Words.{◌≡◌, ◌⊎◌, ℕ, true, List, [], ◌∷◌, ◌++◌, Option, Some, None, map, refl, sym, ap, ◌∙◌, subst, inl, inr, arith, append_assoc, map-append}
 use Words.{Config, DemandedFile, GrantNo, HeldLock, Mode, Output, PageNo, Stamp}
-use Words.{Body}
+use Words.{Body, Message}
 use Words.bodies
 use Words.modes
 use Words.outputs
@@ -29,7 +29,7 @@ use Rattle.st_third.specs.State.{ThirdTurn, all_said, plain_output, session}
 use Rattle.st_third.specs.UsedOnce.{reduced}
 use Rattle.st_laws_third.specs.Changes.{ThirdChange, ThirdChanges, Bounds, Continues, Still, Then, Plainly, Says, Leaves, IsBeside, WaitsForRoom, Begins, GivesBack}
 use Rattle.st_laws_third.specs.Changes.{Reduces, bounds, with_plain}
-use Rattle.st_laws_third.specs.Changes.{PlainWord, Sends, SendsRight, Greets, Sees, Asks}
+use Rattle.st_laws_third.specs.Changes.{HasLeave, Heard, PlainWord, Sends, SendsRight, Greets, Sees, Asks}
 use Rattle.st_laws_third.specs.Sessions.{AllFine, Dates, NoDemand, RequestFine, SessionFine, WordFine}
 
 -- Dates
@@ -138,13 +138,13 @@ one_word t u k o e f = record { more = o ∷ []; out = e; right = λ x y h. one 
     one x y (inl q) = subst (SendsRight t) (sym q) (f x)
     one x y (inr i) = absurd i
 
-sent_fine : (t : Turn) (b : Body) → Sends t b → SessionFine t.here.session → NoDemand b
-sent_fine t _ Greets f = tt
-sent_fine t _ (Sees ino g) f = tt
-sent_fine t b (Asks s q _ e p i) f = subst NoDemand (sym i) (subst RequestFine p (subst SessionFine e f))
+sent_fine : (t : Turn) (m : Message) → Sends t m → SessionFine t.here.session → NoDemand m.body
+sent_fine t _ (Greets stamp) f = tt
+sent_fine t _ (Sees s ino g e) f = tt
+sent_fine t _ (Asks s q stamp e p) f = subst RequestFine p (subst SessionFine e f)
 
 pub said_fine : (t : Turn) (o : Output) → SendsRight t o → SessionFine t.here.session → WordFine (plain_output o)
-said_fine t (outputs.Send m) s f = sent_fine t m.body s f
+said_fine t (outputs.Send m) s f = sent_fine t m s f
 said_fine t (outputs.Submit number at what) s f = tt
 said_fine t (outputs.Answer op a) s f = tt
 said_fine t (outputs.Note n) s f = tt
@@ -257,7 +257,7 @@ reduced_next now t s d ino e i = held (locks.lock_of s.locks d.ino)
         forgets : (to : Mode) → ThirdNext now t (with_plain (with_store (passes.forgotten_at ino to t.plain.here.store) t.plain) t)
         forgets modes.None =
             let c : client.Change now t.plain _ = client.Forgets t.plain ino (page_no 0) i in
-            plain_next (bounds t) now t _ c tt
+            plain_next (bounds None t) now t _ c tt
         forgets modes.S = next_still now t
         forgets modes.X = next_still now t
 
@@ -271,10 +271,10 @@ reduced_next now t s d ino e i = held (locks.lock_of s.locks d.ino)
 -- Changes
 
 -- a word of the third form isn't a message
-said_word : (o : ThirdOutput) → PlainWord o → (x : ThirdOutput) → Has x (o ∷ []) → WordFine x
-said_word o w x (inl e) = subst WordFine (sym e) (word o w)
+said_word : (t : ThirdTurn) (o : ThirdOutput) → PlainWord t o → (x : ThirdOutput) → Has x (o ∷ []) → WordFine x
+said_word t o w x (inl e) = subst WordFine (sym e) (word o w)
   where
-    word : (o : ThirdOutput) → PlainWord o → WordFine o
+    word : (o : ThirdOutput) → PlainWord t o → WordFine o
     word (says.Plain (outputs.Send m)) w = absurd w
     word (says.Plain (outputs.Submit number at what)) w = tt
     word (says.Plain (outputs.Answer op a)) w = tt
@@ -282,12 +282,12 @@ said_word o w x (inl e) = subst WordFine (sym e) (word o w)
     word (says.Left op) w = tt
     word (says.Unsynced op ino) w = tt
     word (says.Ended s life end) w = tt
-said_word o w x (inr i) = absurd i
+said_word t o w x (inr i) = absurd i
 
-pub change_third : (now : Stamp) (t u : ThirdTurn) → ThirdChange now t u → ThirdNext now t u
+pub change_third : {got : Heard} (now : Stamp) (t u : ThirdTurn) → ThirdChange got now t u → ThirdNext now t u
 unfolding Rattle.st_third.specs.State.say Rattle.st_third.specs.State.plainly
-change_third now t _ (Plainly _ u c p) = plain_next (bounds t) now t u c p
-change_third now t _ (Says _ o w) =
+change_third {got} now t _ (Plainly _ u c p) = plain_next (bounds got t) now t u c p
+change_third {got} now t _ (Says _ o w) =
     record {
       config = refl;
       limits = refl;
@@ -299,9 +299,9 @@ change_third now t _ (Says _ o w) =
       said =
           sym (nothing_after (all_said t ++ o ∷ []));
       asks = λ f. f;
-      quiet = λ f x h. said_word o w x h;
+      quiet = λ f x h. said_word t o w x h;
     }
-change_third now t _ (Leaves _ ls) =
+change_third {got} now t _ (Leaves _ ls k) =
     record {
       config = refl;
       limits = refl;
@@ -315,7 +315,7 @@ change_third now t _ (Leaves _ ls) =
       asks = λ f. f;
       quiet = λ f o h. absurd h;
     }
-change_third now t _ (IsBeside _ b l) =
+change_third {got} now t _ (IsBeside _ b l) =
     record {
       config = refl;
       limits = refl;
@@ -329,7 +329,7 @@ change_third now t _ (IsBeside _ b l) =
       asks = λ f. f;
       quiet = λ f o h. absurd h;
     }
-change_third now t _ (WaitsForRoom _ n) =
+change_third {got} now t _ (WaitsForRoom _ n) =
     record {
       config = refl;
       limits = refl;
@@ -343,20 +343,20 @@ change_third now t _ (WaitsForRoom _ n) =
       asks = λ f. f;
       quiet = λ f o h. absurd h;
     }
-change_third now t _ (Begins _ epoch stamp e f) =
+change_third {got} now t _ (Begins _ epoch stamp e f w) =
     let u : ClientSession = limited_session t.limits (new_session epoch stamp) in
     session_next now t u (subst (λ z. Dates t.plain.config now z (Some u)) (sym e) f) (λ h x q. absurd (no x q)) (λ f. tt)
   where
     no : (x : ℕ × PageNo) → ◌≡◌ {A = Option (ℕ × PageNo)} None (Some x) → ⊥
     no x q = cc
-change_third now t _ (GivesBack _ s l e h) =
+change_third {got} now t _ (GivesBack _ s l e h) =
     session_next now t (demanded l.ino s) (subst (λ z. Dates t.plain.config now z (Some (demanded l.ino s))) (sym e) (inl (omega arith)))
     (λ f. subst (SessionFresh t.plain.here.store) e f) (λ f. subst SessionFine e f)
-change_third now t _ (Reduces _ s d ino e q i) = reduced_next now t s d ino e i
+change_third {got} now t _ (Reduces _ s d ino e q i) = reduced_next now t s d ino e i
 
-pub changes_third : (now : Stamp) (t u : ThirdTurn) → ThirdChanges now t u → ThirdNext now t u
-changes_third now t _ (Still _) = next_still now t
-changes_third now t v (Then _ u _ c cs) = next_both now t u v (change_third now t u c) (changes_third now u v cs)
+pub changes_third : {got : Heard} (now : Stamp) (t u : ThirdTurn) → ThirdChanges got now t u → ThirdNext now t u
+changes_third {got} now t _ (Still _) = next_still now t
+changes_third {got} now t v (Then _ u _ c cs) = next_both now t u v (change_third now t u c) (changes_third now u v cs)
 
 -- a reduction says nothing
 reduced_says : (t : ThirdTurn) (s : ClientSession) (d : DemandedFile) (ino : ℕ) → all_said (with_plain (reduced s (Some d) ino t.plain) t) ≡ all_said t
@@ -380,11 +380,12 @@ pub record SaysMore (t u : ThirdTurn) : Type 0 where
   pub more : List ThirdOutput
   pub said : all_said u ≡ all_said t ++ more
   pub right : (o : ThirdOutput) → Has o more → WordRight t.plain o
+  pub left : (op : ℕ) → Has (says.Left op) more → HasLeave t op
 
 says_none : (t u : ThirdTurn) → all_said u ≡ all_said t → SaysMore t u
-says_none t u e = record { more = []; said = e ∙ nothing_after (all_said t); right = λ o h. absurd h }
+says_none t u e = record { more = []; said = e ∙ nothing_after (all_said t); right = λ o h. absurd h; left = λ op h. absurd h }
 
-word_right : (t : Turn) (o : ThirdOutput) → PlainWord o → WordRight t o
+word_right : (t : ThirdTurn) (o : ThirdOutput) → PlainWord t o → WordRight t.plain o
 word_right t (says.Plain (outputs.Send m)) w = absurd w
 word_right t (says.Plain (outputs.Submit number at what)) w = tt
 word_right t (says.Plain (outputs.Answer op a)) w = tt
@@ -393,28 +394,37 @@ word_right t (says.Left op) w = tt
 word_right t (says.Unsynced op ino) w = tt
 word_right t (says.Ended s life end) w = w
 
-pub change_says : (now : Stamp) (t u : ThirdTurn) → ThirdChange now t u → SaysMore t u
+pub change_says : {got : Heard} (now : Stamp) (t u : ThirdTurn) → ThirdChange got now t u → SaysMore t u
 unfolding Rattle.st_third.specs.State.say Rattle.st_third.specs.State.plainly
-change_says now t _ (Plainly _ u c p) =
-    let w = spoken (bounds t) now t.plain u c in
+change_says {got} now t _ (Plainly _ u c p) =
+    let w = spoken (bounds got t) now t.plain u c in
     record {
       more = map plain_output w.more;
       said = plain_said t u w.more w.out;
       right = λ o h. let z = has_map plain_output w.more o h in subst (WordRight t.plain) (sym z.2) (w.right p z.0 z.1);
+      left = λ op h. let z = has_map plain_output w.more (says.Left op) h in absurd (no_left op z.0 z.2);
     }
-change_says now t _ (Says _ o w) =
+  where
+    no_left : (op : ℕ) (o : Output) → says.Left op ≡ plain_output o → ⊥
+    no_left op o e = cc
+change_says {got} now t _ (Says _ o w) =
     record {
       more = o ∷ [];
       said = sym (nothing_after (all_said t ++ o ∷ []));
       right = λ x h. one x h;
+      left = λ op h. left op h;
     }
   where
     one : (x : ThirdOutput) → Has x (o ∷ []) → WordRight t.plain x
-    one x (inl e) = subst (WordRight t.plain) (sym e) (word_right t.plain o w)
+    one x (inl e) = subst (WordRight t.plain) (sym e) (word_right t o w)
     one x (inr i) = absurd i
-change_says now t _ (Leaves _ ls) = says_none t _ refl
-change_says now t _ (IsBeside _ b l) = says_none t _ refl
-change_says now t _ (WaitsForRoom _ n) = says_none t _ refl
-change_says now t _ (Begins _ epoch stamp e f) = says_none t _ refl
-change_says now t _ (GivesBack _ s l e h) = says_none t _ refl
-change_says now t _ (Reduces _ s d ino e q i) = says_none t _ (reduced_says t s d ino)
+
+    left : (op : ℕ) → Has (says.Left op) (o ∷ []) → HasLeave t op
+    left op (inl e) = subst (PlainWord t) (sym e) w
+    left op (inr i) = absurd i
+change_says {got} now t _ (Leaves _ ls k) = says_none t _ refl
+change_says {got} now t _ (IsBeside _ b l) = says_none t _ refl
+change_says {got} now t _ (WaitsForRoom _ n) = says_none t _ refl
+change_says {got} now t _ (Begins _ epoch stamp e f w) = says_none t _ refl
+change_says {got} now t _ (GivesBack _ s l e h) = says_none t _ refl
+change_says {got} now t _ (Reduces _ s d ino e q i) = says_none t _ (reduced_says t s d ino)

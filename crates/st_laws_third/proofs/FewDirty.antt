@@ -28,7 +28,7 @@ use Rattle.st_third.specs.Steps.{ThirdStep, ThirdTraced}
 use Rattle.st_third.specs.UsedOnce.{reduced}
 use Rattle.st_third.specs.World as worlds
 use Rattle.st_third.specs.World.{ThirdWorld, third_world}
-use Rattle.st_laws_third.specs.Changes.{Bounds, Continues, ThirdChange, Plainly, Says, Leaves, IsBeside, WaitsForRoom, Begins, GivesBack, Reduces, bounds}
+use Rattle.st_laws_third.specs.Changes.{Bounds, Continues, Heard, ThirdChange, Plainly, Says, Leaves, IsBeside, WaitsForRoom, Begins, GivesBack, Reduces, bounds}
 use Rattle.st_laws_third.specs.FewDirty.{DirtyPagesAreFew, EveryClientHasFewDirtyPages, has_few_dirty, has_few_dirty_at}
 use Rattle.st_laws_third.proofs.AllClients.{AllGood, good_after, good_first}
 use Rattle.st_laws_third.proofs.FewLocks.{Any, length_put_own}
@@ -95,16 +95,16 @@ reduced_few n t s d ino f = held (locks.lock_of s.locks d.ino) d.to
     held (Some l) modes.S = f
     held (Some l) modes.X = f
 
-turn_few : (now : Stamp) (n : ℕ) (t u : ThirdTurn) → ThirdChange now t u → t.limits.dirty ≡ n → FewAt n t.plain.here → FewAt n u.plain.here
+turn_few : {got : Heard} (now : Stamp) (n : ℕ) (t u : ThirdTurn) → ThirdChange got now t u → t.limits.dirty ≡ n → FewAt n t.plain.here → FewAt n u.plain.here
 unfolding Rattle.st_third.specs.State.say Rattle.st_third.specs.State.plainly
-turn_few now n t _ (Plainly _ u c p) l f = plain_few n (bounds t) l now t.plain u c p f
-turn_few now n t _ (Says _ o w) l f = f
-turn_few now n t _ (Leaves _ ls) l f = f
-turn_few now n t _ (IsBeside _ b x) l f = f
-turn_few now n t _ (WaitsForRoom _ k) l f = f
-turn_few now n t _ (Begins _ epoch stamp e x) l f = f
-turn_few now n t _ (GivesBack _ s x e h) l f = f
-turn_few now n t _ (Reduces _ s d ino e q i) l f = reduced_few n t s d ino f
+turn_few {got} now n t _ (Plainly _ u c p) l f = plain_few n (bounds got t) l now t.plain u c p f
+turn_few {got} now n t _ (Says _ o w) l f = f
+turn_few {got} now n t _ (Leaves _ ls k) l f = f
+turn_few {got} now n t _ (IsBeside _ b x) l f = f
+turn_few {got} now n t _ (WaitsForRoom _ k) l f = f
+turn_few {got} now n t _ (Begins _ epoch stamp e x w) l f = f
+turn_few {got} now n t _ (GivesBack _ s x e h) l f = f
+turn_few {got} now n t _ (Reduces _ s d ino e q i) l f = reduced_few n t s d ino f
 
 ends_few : (n : ℕ) (t : Turn) (number : ℕ) (ok : Bool) (v : Turn) → Ends number ok t v → FewAt n t.here → FewAt n v.here
 unfolding plain.hardened pages.harden pages.harden_at pages.harden_page pages.fail

@@ -33,7 +33,7 @@ use Rattle.st_third.specs.Steps.{ThirdStep, ThirdTraced}
 use Rattle.st_third.specs.UsedOnce.{reduced}
 use Rattle.st_third.specs.World as worlds
 use Rattle.st_third.specs.World.{ThirdWorld, third_world}
-use Rattle.st_laws_third.specs.Changes.{Bounds, Continues, ThirdChange, Plainly, Says, Leaves, IsBeside, WaitsForRoom, Begins, GivesBack, Reduces, bounds}
+use Rattle.st_laws_third.specs.Changes.{Bounds, Continues, Heard, ThirdChange, Plainly, Says, Leaves, IsBeside, WaitsForRoom, Begins, GivesBack, Reduces, bounds}
 use Rattle.st_laws_third.specs.FewLocks.{EveryClientHasFewLocks, LocksAreFew, has_few_locks, has_few_locks_at}
 use Rattle.st_laws_third.proofs.AllClients.{AllGood, good_after, good_first}
 use Rattle.st_laws_third.proofs.Folds as folds
@@ -173,16 +173,16 @@ reduced_few m t s d ino e f = held (locks.lock_of s.locks d.ino) refl
 abbrev Few : Config → Limits → Association → Beside → Type 0
 Few k m a b = FewIn m a.session
 
-turn_few : (now : Stamp) (m : Limits) (t u : ThirdTurn) → ThirdChange now t u → t.limits ≡ m → FewIn m (session t) → FewIn m (session u)
+turn_few : {got : Heard} (now : Stamp) (m : Limits) (t u : ThirdTurn) → ThirdChange got now t u → t.limits ≡ m → FewIn m (session t) → FewIn m (session u)
 unfolding Rattle.st_third.specs.State.say Rattle.st_third.specs.State.plainly
-turn_few now m t _ (Plainly _ u c p) l f = plain_few m (bounds t) now t.plain u c p f
-turn_few now m t _ (Says _ o w) l f = f
-turn_few now m t _ (Leaves _ ls) l f = f
-turn_few now m t _ (IsBeside _ b x) l f = f
-turn_few now m t _ (WaitsForRoom _ n) l f = f
-turn_few now m t _ (Begins _ epoch stamp e x) l f = (ap (λ (z : Limits). z.locks) l, omega arith)
-turn_few now m t _ (GivesBack _ s x e h) l f = subst (FewIn m) e f
-turn_few now m t _ (Reduces _ s d ino e q i) l f = reduced_few m t s d ino e f
+turn_few {got} now m t _ (Plainly _ u c p) l f = plain_few m (bounds got t) now t.plain u c p f
+turn_few {got} now m t _ (Says _ o w) l f = f
+turn_few {got} now m t _ (Leaves _ ls k) l f = f
+turn_few {got} now m t _ (IsBeside _ b x) l f = f
+turn_few {got} now m t _ (WaitsForRoom _ n) l f = f
+turn_few {got} now m t _ (Begins _ epoch stamp e x w) l f = (ap (λ (z : Limits). z.locks) l, omega arith)
+turn_few {got} now m t _ (GivesBack _ s x e h) l f = subst (FewIn m) e f
+turn_few {got} now m t _ (Reduces _ s d ino e q i) l f = reduced_few m t s d ino e f
 
 ends_few : (m : Limits) (t : Turn) (number : ℕ) (ok : Bool) (v : Turn) → Ends number ok t v → FewIn m t.here.session → FewIn m v.here.session
 unfolding plain.hardened

@@ -1,7 +1,7 @@
 -- In every run of the third form, no reassertion is of more locks than a client may have.
 use Rattle.st_lemmas.proofs.Words
 use Words.{◌≡◌, ◌≤◌, ◌+◌, ◌==◌, ℕ, Bool, true, false, List, [], ◌∷◌, length, filter_map, map, cons_option, Option, Some, None, refl, sym, ap, subst, arith, if◌then◌else◌, le-leb, length-map, nat_lt}
-use Words.{Body, ClientId, Config, DemandedFile, HeldLock, Observation, Output, Request, ServerId, Stamp}
+use Words.{Body, ClientId, Config, DemandedFile, HeldLock, Message, Observation, Output, Request, ServerId, Stamp}
 use Words.bodies
 use Words.nodes
 use Words.outputs
@@ -34,7 +34,7 @@ use Rattle.st_third.specs.UsedOnce.{reduced}
 use Rattle.st_third.specs.World as worlds
 use Rattle.st_third.specs.World.{ThirdWorld, third_world}
 use Rattle.st_laws_third.specs.Changes.{AsksRight, Bounds, Continues, IsWhole, Sends, Greets, Sees, Asks}
-use Rattle.st_laws_third.specs.Changes.{ThirdChange, Plainly, Says, Leaves, IsBeside, WaitsForRoom, Begins, GivesBack, Reduces, bounds}
+use Rattle.st_laws_third.specs.Changes.{Heard, ThirdChange, Plainly, Says, Leaves, IsBeside, WaitsForRoom, Begins, GivesBack, Reduces, bounds}
 use Rattle.st_laws_third.specs.FewRows.{EveryReassertionIsFew, ReassertionsAreFew, has_few_rows, is_few}
 use Rattle.st_laws_third.proofs.AllClients.{AllGood, good_after, good_first, good_said}
 use Rattle.st_laws_third.proofs.DemandsSeen.{People, mail_throughout, mailed_first, people_first, within_most}
@@ -127,7 +127,7 @@ plain_rows m within now t _ (client.Answers _ os ops a) n f = f
 plain_rows m within now t _ (client.Greets _ g) n f = f
 plain_rows m within now t _ (client.TellsLost _ lost) n f = f
 plain_rows m within now t _ (client.Begins _ s a b c) n f = absurd n
-plain_rows m within now t _ (client.Follows _ s u e g) n f = change_rows m within.run t.here.store s u g.how n (subst (RowsFew m) e f)
+plain_rows m within now t _ (client.Follows _ s u e g) n f = change_rows m within.run t.here.store s u g.how n.0 (subst (RowsFew m) e f)
 plain_rows m within now t _ (client.Learns _ e u h) n f = f
 plain_rows m within now t _ (client.Forgets _ ino p i) n f = f
 plain_rows m within now t _ (client.Caches _ clean) n f = f
@@ -153,16 +153,16 @@ reduced_rows m t s d ino e f = held (locks.lock_of s.locks d.ino) refl
     held (Some l) q =
         (subst (λ o. FewIn m (passes.reduce_by t.plain s ino (locks.reduce_lock s.locks d o)).here.session) q (reduced_few m t s d ino e few), old.1)
 
-turn_rows : (now : Stamp) (m : Limits) (t u : ThirdTurn) → ThirdChange now t u → t.limits ≡ m → RowsFew m (session t) → RowsFew m (session u)
+turn_rows : {got : Heard} (now : Stamp) (m : Limits) (t u : ThirdTurn) → ThirdChange got now t u → t.limits ≡ m → RowsFew m (session t) → RowsFew m (session u)
 unfolding Rattle.st_third.specs.State.say Rattle.st_third.specs.State.plainly
-turn_rows now m t _ (Plainly _ u c p) l f = plain_rows m (bounds t) now t.plain u c p f
-turn_rows now m t _ (Says _ o w) l f = f
-turn_rows now m t _ (Leaves _ ls) l f = f
-turn_rows now m t _ (IsBeside _ b x) l f = f
-turn_rows now m t _ (WaitsForRoom _ n) l f = f
-turn_rows now m t _ (Begins _ epoch stamp e x) l f = ((ap (λ (z : Limits). z.locks) l, omega arith), tt)
-turn_rows now m t _ (GivesBack _ s x e h) l f = subst (RowsFew m) e f
-turn_rows now m t _ (Reduces _ s d ino e q i) l f = reduced_rows m t s d ino e f
+turn_rows {got} now m t _ (Plainly _ u c p) l f = plain_rows m (bounds got t) now t.plain u c p f
+turn_rows {got} now m t _ (Says _ o w) l f = f
+turn_rows {got} now m t _ (Leaves _ ls k) l f = f
+turn_rows {got} now m t _ (IsBeside _ b x) l f = f
+turn_rows {got} now m t _ (WaitsForRoom _ n) l f = f
+turn_rows {got} now m t _ (Begins _ epoch stamp e x w) l f = ((ap (λ (z : Limits). z.locks) l, omega arith), tt)
+turn_rows {got} now m t _ (GivesBack _ s x e h) l f = subst (RowsFew m) e f
+turn_rows {got} now m t _ (Reduces _ s d ino e q i) l f = reduced_rows m t s d ino e f
 
 ends_rows : (m : Limits) (t : Turn) (number : ℕ) (ok : Bool) (v : Turn) → Ends number ok t v → RowsFew m t.here.session → RowsFew m v.here.session
 unfolding plain.hardened
@@ -176,14 +176,14 @@ abbrev WordRows : Limits → ThirdOutput → Type 0
 WordRows m (says.Plain (outputs.Send x)) = RowsIn m x.body
 WordRows m o = Unit {0}
 
-sent_rows : (m : Limits) (t : Turn) (b : Body) → Sends t b → RowsFew m t.here.session → RowsIn m b
-sent_rows m t _ Greets f = tt
-sent_rows m t _ (Sees ino g) f = tt
-sent_rows m t b (Asks s q _ e p i) f =
-    let old : RowsFew m (Some s) = subst (RowsFew m) e f in subst (RowsIn m) (sym i) (subst (AskedRows m) p old.1)
+sent_rows : (m : Limits) (t : Turn) (x : Message) → Sends t x → RowsFew m t.here.session → RowsIn m x.body
+sent_rows m t _ (Greets stamp) f = tt
+sent_rows m t _ (Sees s ino g e) f = tt
+sent_rows m t _ (Asks s q stamp e p) f =
+    let old : RowsFew m (Some s) = subst (RowsFew m) e f in subst (AskedRows m) p old.1
 
 word_rows : (m : Limits) (t : Turn) (o : ThirdOutput) → WordRight t o → RowsFew m t.here.session → WordRows m o
-word_rows m t (says.Plain (outputs.Send x)) r f = sent_rows m t x.body r f
+word_rows m t (says.Plain (outputs.Send x)) r f = sent_rows m t x r f
 word_rows m t (says.Plain (outputs.Submit number at what)) r f = tt
 word_rows m t (says.Plain (outputs.Answer op a)) r f = tt
 word_rows m t (says.Plain (outputs.Note n)) r f = tt

@@ -15,7 +15,7 @@ use Rattle.st_third.specs.State.{ThirdTurn, plainly}
 use Rattle.st_laws_third.specs.Changes.{ThirdChanges, ThirdFinishes, Still, with_plain}
 use Rattle.st_laws_third.proofs.Chains.{answered_with_leaves, as_plain, by_rule, old_calm}
 
-pub takes : (now : Stamp) (op : ℕ) (ask : Ask) (t : ThirdTurn) → ThirdChanges now t (third.take_plainly op ask t)
+pub takes : (now : Stamp) (op : ℕ) (ask : Ask) (t : ThirdTurn) → ThirdChanges None now t (third.take_plainly op ask t)
 takes now op ask t = by_rule t (cl.take_ask op ask) (old_calm (changes_by_take now op ask t.plain))
 
 module _ (now : Stamp) (number : ℕ) (t : ThirdTurn) where

@@ -23,7 +23,7 @@ use Rattle.st_third.specs.Leave as leaving
 use Rattle.st_third.specs.Limits.{limited_association}
 use Rattle.st_third.specs.Replies.{receive, receive_at}
 use Rattle.st_third.specs.State.{Beside, ThirdClient, ThirdClientTurn, ThirdTurn, all_said, at_each, at_these, enter, fresh_beside, leave, only_at, plain_output, plainly, session, third_turn}
-use Rattle.st_laws_third.specs.Changes.{ThirdChange, ThirdChanges, ThirdFinishes, ThirdLeaves, ThirdLoses, ThirdPasses, HasLeft, IsLost, Lasts, Stays, Still, Then, with_plain}
+use Rattle.st_laws_third.specs.Changes.{Heard, ThirdChange, ThirdChanges, ThirdFinishes, ThirdLeaves, ThirdLoses, ThirdPasses, HasLeft, IsLost, Lasts, Stays, Still, Then, with_plain}
 use Rattle.st_laws_third.proofs.Chains.{left_has, right_has}
 use Rattle.st_laws_third.proofs.Facts.{WordRight, change_says, change_third}
 use Rattle.st_laws_third.proofs.Finishing.{finishes, takes}
@@ -63,7 +63,7 @@ both_of good (a ∷ as_) (b ∷ bs) e f g =
 
 -- What a law owes: each change keeps it, and what is left of a lease that was lost and of a life that ended has it; its words are those that changes say.
 pub record Keeps (k : Config) (m : Limits) (now : Stamp) (good : Association → Beside → Type 0) (fine : ThirdOutput → Type 0) : Type 0 where
-  pub change : (t u : ThirdTurn) → ThirdChange now t u → t.plain.config ≡ k → t.limits ≡ m → Fit t.plain.here → good t.plain.here t.beside →
+  pub change : {got : Heard} (t u : ThirdTurn) → ThirdChange got now t u → t.plain.config ≡ k → t.limits ≡ m → Fit t.plain.here → good t.plain.here t.beside →
       good u.plain.here u.beside
   pub word : (t : ThirdTurn) → good t.plain.here t.beside → (o : ThirdOutput) → WordRight t.plain o → fine o
   pub ends : (t : Turn) (b : Beside) (number : ℕ) (ok : Bool) (v : Turn) → Ends number ok t v → good t.here b → good v.here b
@@ -99,7 +99,7 @@ module _ (k : Config) (m : Limits) (now : Stamp) (good : Association → Beside 
     holds : good t.plain.here t.beside
     said : AllFine (all_said t)
 
-  change_kept : (t u : ThirdTurn) → ThirdChange now t u → At t → At u
+  change_kept : {got : Heard} (t u : ThirdTurn) → ThirdChange got now t u → At t → At u
   change_kept t u c a =
       let n = change_third now t u c in
       let w = change_says now t u c in
@@ -111,9 +111,9 @@ module _ (k : Config) (m : Limits) (now : Stamp) (good : Association → Beside 
         said = subst AllFine (sym w.said) (fine_both (all_said t) w.more a.said (λ o h. law.word t a.holds o (w.right o h)));
       }
 
-  changes_kept : (t u : ThirdTurn) → ThirdChanges now t u → At t → At u
-  changes_kept t _ (Still _) a = a
-  changes_kept t v (Then _ u _ c cs) a = changes_kept u v cs (change_kept t u c a)
+  changes_kept : {got : Heard} (t u : ThirdTurn) → ThirdChanges got now t u → At t → At u
+  changes_kept {got} t _ (Still _) a = a
+  changes_kept {got} t v (Then _ u _ c cs) a = changes_kept u v cs (change_kept t u c a)
 
   -- nothing is left of an association
   emptied_kept : (t : ThirdTurn) → At t → At (leaving.emptied t)

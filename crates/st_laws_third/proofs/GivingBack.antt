@@ -11,7 +11,7 @@ use Rattle.std.specs.Option.{option_or}
 use Rattle.st_laws_steps.proofs.Client.Calm as calm
 use Rattle.st_third.specs.GiveBack as giving
 use Rattle.st_third.specs.State.{ThirdTurn, plainly, session}
-use Rattle.st_laws_third.specs.Changes.{ThirdChanges, Bounds, GivesBack, IsBeside, SameRun, Still}
+use Rattle.st_laws_third.specs.Changes.{ThirdChanges, Bounds, GivesBack, Heard, IsBeside, SameRun, Still}
 use Rattle.st_laws_third.proofs.Chains.{Old, both, by_rule, either, old_calm, old_still, one}
 
 -- The lock that is chosen is one of those.
@@ -52,26 +52,26 @@ refusal_keeps s t o q =
     subst (λ b. session (if b then plainly (giving.too_many (file_of o.ask)) t else giving.give_unless t s o) ≡ session t) (sym q)
     (ap (λ (a : Association). a.session) (refused_here t.plain (file_of o.ask)))
 
-module _ {now : Stamp} where
-  refuses : {within : Bounds} (u : Turn) (file : Option ℕ) → Old within now u (replies.refuse_file u answers.TooManyLocks file)
-  unfolding replies.refuse_file
-  refuses u None = old_still u
-  refuses u (Some ino) = old_calm (calm.changes_by_each_answer (replies.works_on u ino) answers.TooManyLocks u tt)
+refuses : {within : Bounds} {now : Stamp} (u : Turn) (file : Option ℕ) → Old within now u (replies.refuse_file u answers.TooManyLocks file)
+unfolding replies.refuse_file
+refuses u None = old_still u
+refuses u (Some ino) = old_calm (calm.changes_by_each_answer (replies.works_on u ino) answers.TooManyLocks u tt)
 
+module _ {got : Heard} {now : Stamp} where
   module _ (s : ClientSession) where
     gives_lock : (t : ThirdTurn) (o : Operation) → session t ≡ Some s → (l : Option HeldLock) → giving.chosen t (giving.spare t s o) ≡ l →
-        ThirdChanges now t (giving.give_lock t s l)
+        ThirdChanges got now t (giving.give_lock t s l)
     unfolding giving.give_lock
     gives_lock t o e None q = Still t
     gives_lock t o e (Some l) q = one (GivesBack t s l e (has_filter (giving.is_spare t s o) s.locks.rows l (chosen_there t (giving.spare t s o) l q)).0)
 
-    gives_back : (t : ThirdTurn) (o : Operation) → session t ≡ Some s → ThirdChanges now t (giving.give_back t s o)
+    gives_back : (t : ThirdTurn) (o : Operation) → session t ≡ Some s → ThirdChanges got now t (giving.give_back t s o)
     unfolding giving.give_back giving.give_unless
     gives_back t o e =
         either (giving.is_all_stuck t s) t _ _ (λ q. by_rule t (giving.too_many (file_of o.ask)) (refuses t.plain (file_of o.ask)))
         (λ q. either (giving.is_on_its_way t s) t _ _ (λ w. Still t) (λ w. gives_lock t o e (giving.chosen t (giving.spare t s o)) refl))
 
-    gives_each : (os : List Operation) (t : ThirdTurn) → session t ≡ Some s → ThirdChanges now t (giving.give_each s os t)
+    gives_each : (os : List Operation) (t : ThirdTurn) → session t ≡ Some s → ThirdChanges got now t (giving.give_each s os t)
     unfolding giving.give_each giving.give_for giving.give_if_full giving.give_or_go_on
     gives_each [] t e = Still t
     gives_each (o ∷ os) t e =
@@ -82,21 +82,21 @@ module _ {now : Stamp} where
         (λ q. gives_back t o e)) (λ f. Still t)) (λ p. gives_each os t e)
 
     -- the server is full
-    pub is_full_at : (t : ThirdTurn) (ino : ℕ) → session t ≡ Some s → ThirdChanges now t (giving.full_at t s now ino)
+    pub is_full_at : (t : ThirdTurn) (ino : ℕ) → session t ≡ Some s → ThirdChanges got now t (giving.full_at t s now ino)
     unfolding giving.full_at giving.give_at
     is_full_at t ino e = both (one (IsBeside t _ (SameRun refl))) (go (find (giving.needs_file t ino) t.plain.operations))
       where
         u : ThirdTurn
         u = giving.with_full now t
 
-        go : (o : Option Operation) → ThirdChanges now u (giving.give_at u s o)
+        go : (o : Option Operation) → ThirdChanges got now u (giving.give_at u s o)
         go None = Still u
         go (Some o) = gives_back u o e
 
-  pub gives : (t : ThirdTurn) → ThirdChanges now t (giving.giving now t)
+  pub gives : (t : ThirdTurn) → ThirdChanges got now t (giving.giving now t)
   unfolding giving.giving giving.giving_by giving.giving_under
   gives t = go (session t) refl
     where
-      go : (x : Option ClientSession) → session t ≡ x → ThirdChanges now t (giving.giving_by t now x)
+      go : (x : Option ClientSession) → session t ≡ x → ThirdChanges got now t (giving.giving_by t now x)
       go None e = Still t
       go (Some s) e = either (is_serving t.plain.config s now) t _ _ (λ q. gives_each s t.plain.operations t e) (λ q. Still t)

@@ -3,35 +3,37 @@ mod FirstWorlds
 mod FirstRuns
 mod FirstSteps
 mod FirstHeads
-mod Pairs
-mod Chains
-mod UsedOnce
-mod Rooms
+pub mod Pairs
+pub mod Chains
+pub mod UsedOnce
+pub mod Rooms
+mod PendingLeaves
 mod GivingBack
-mod Leaving
-mod Replying
-mod Receiving
-mod Finishing
-mod Passing
-mod Facts
-mod Folds
+pub mod Leaving
+pub mod Replying
+pub mod Receiving
+pub mod Finishing
+pub mod Passing
+pub mod Facts
+pub mod Folds
 mod Rules
-mod Stepping
-mod ExpiredClients
-mod EventWalk
+pub mod Stepping
+pub mod Living
+pub mod ExpiredClients
+pub mod EventWalk
 pub mod Moves
-mod Told
+pub mod Told
 pub mod Sound
 mod HardEntries
-mod AllClients
+pub mod AllClients
 mod Welcomes
 mod Demands
 pub mod DemandRuns
-mod ServerWords
+pub mod ServerWords
 mod ClientWords
-mod Mail
-mod DemandsSeen
-mod ShortRuns
+pub mod Mail
+pub mod DemandsSeen
+pub mod ShortRuns
 mod FewLocks
 mod FewDirty
 mod FewRows

@@ -1,10 +1,11 @@
 -- The passes of a client of the third form are lists of changes.
 use Rattle.st_lemmas.proofs.Words
-use Words.{◌≡◌, ◌≤◌, ◌+◌, ℕ, zero, suc, pred, Bool, true, false, ◌&&◌, not, ◌==◌, List, [], ◌∷◌, Option, Some, None, find, refl, ap, sym, subst, ◌∙◌, inl, arith, is_some, if◌then◌else◌, eqb-true, eq-eqb}
+use Words.{◌≡◌, ◌≤◌, ◌+◌, ℕ, zero, suc, pred, Bool, true, false, ◌&&◌, not, ◌==◌, List, [], ◌∷◌, Option, Some, None, filter, find, refl, ap, sym, subst, ◌∙◌, inl, inr, arith, is_some, if◌then◌else◌, eqb-true}
 use Words.{Ask, Body, FileId, Operation, PageNo, Release, Request, ServerId, Stamp}
 use Words.answers
 use Words.asks
 use Words.bodies
+use Words.outputs
 use Words.Client as cl
 use Words.ClientLease as lease
 use Words.ClientLocks as locks
@@ -12,18 +13,18 @@ use Words.ClientLocks.{LockCache}
 use Words.ClientPages as pages
 use Words.ClientPages.{Store}
 use Words.ClientPasses as passes
-use Words.ClientState.{ClientSession, Turn, asking, file_of, is_busy, is_file, is_of, is_sent, is_serving, keep, reasserts, send, server_of, with_operations, with_session}
+use Words.ClientState.{ClientSession, Turn, asking, file_of, is_of, is_sent, is_serving, reasserts, send, server_of, with_operations, with_session, with_store}
 use Words.Keys.{page_no}
-use Words.Lookups.{or_false, some_is}
-use Words.Tables.{and_both, and_true, not_true}
+use Words.Lookups.{some_is}
+use Words.Tables.{and_both, and_true, found_at, has_filter, not_true}
+use Words.Lists.{Rises}
 use Words.Truth.{not_both}
+use Rattle.st_lemmas.proofs.Keys.{rising_rises}
 use Rattle.st_laws_steps.specs.Client.Client as client
 use Rattle.st_laws_steps.specs.Client.Client.{map_asked, map_in}
-use Rattle.st_laws_steps.specs.Client.Session.{AsksAgain, MayAsk, cuts_from}
-use Rattle.st_laws_steps.proofs.Client.Asking.{AskingAt, Wants, WantsAt, changes_by_ask_for_or, requests_keep_or_ask, wants_what_it_needs}
-use Rattle.st_laws_steps.proofs.Client.Passing as passing
-use Rattle.st_laws_steps.proofs.Client.Passing.{Uncut}
-use Rattle.st_laws_steps.proofs.Client.Working.{changes_by_quiesce, changes_by_sync}
+use Rattle.st_laws_steps.specs.Client.Session.{AsksAgain, AsksNew, AsksNothing, CutsForgotten, IsAsked, LocksStay, MayAsk, cuts_from}
+use Rattle.st_laws_steps.proofs.Client.Asking.{AskingAt, Wants, WantsAt, wants_what_it_needs}
+use Rattle.st_laws_steps.proofs.Client.Changes.{alike_stay}
 use Rattle.st_third.specs.declared.beside.Leave.{Leave}
 use Rattle.st_third.specs.Client as third
 use Rattle.st_third.specs.GiveBack as giving
@@ -31,56 +32,41 @@ use Rattle.st_third.specs.Leave as leaving
 use Rattle.st_third.specs.Room as room
 use Rattle.st_third.specs.Runs as runs
 use Rattle.st_third.specs.State as state
-use Rattle.st_third.specs.State.{ThirdTurn, here, is_active, session}
+use Rattle.st_third.specs.State.{ThirdTurn, here, is_active, plainly, session}
 use Rattle.st_third.specs.UsedOnce as used
 use Rattle.st_laws_third.specs.Changes.{ThirdChanges, ThirdPasses, Asks, Bounds, IsRun, IsWhole, Still, bounds}
-use Rattle.st_laws_third.proofs.Chains.{Old, RequestRight, SessionRight, both, by_rule, either, old_asks, old_both, old_either, old_one, old_pass, old_still, version}
+use Rattle.st_laws_third.proofs.Chains.{Old, both, by_rule, either, old_both, old_either, old_one, old_still, same_locks}
 use Rattle.st_laws_third.proofs.GivingBack.{gives}
 use Rattle.st_laws_third.proofs.Leaving.{greets, leaves, reduces_all, serves_leave}
+use Rattle.st_laws_third.proofs.PendingLeaves.{AwaitTheirTurn, await_on}
 use Rattle.st_laws_third.proofs.Rooms.{keeps, serves, writes}
 
 server_is : (a b : ServerId) → (a.0 == b.0) ≡ true → a ≡ b
 server_is a b e = ap (λ n. record { 0 = n }) (eqb-true a.0 b.0 e)
 
--- a file that is open is not the one that is cut
-open_uncut : (os : List Operation) (t : ThirdTurn) (s : ClientSession) (o : Operation) (ino : ℕ) → session t ≡ Some s →
-    used.is_open_to os t s o ino ≡ true → Uncut t.plain ino
-open_uncut os t s o ino e h r f c =
-    not_both (is_file ino r.cutting) (ap (is_file ino) c ∙ eq-eqb ino ino refl)
-    (ap (λ (z : ClientSession). is_file ino z.cutting) (some_is (sym f ∙ e))
-    ∙ (or_false (is_file ino s.cutting) _ (not_true (is_busy os (here t) s ino) (and_true (not (is_busy os (here t) s ino)) _ h).0)).0)
-
--- neither changes a page
-quiesce_version : (t : Turn) (o : Operation) → version (passes.quiesce t o) ≤ version t
-unfolding passes.quiesce
-quiesce_version t o = go (is_sent o)
-  where
-    go : (b : Bool) → version (if b then keep o t else passes.answer o answers.Quiesced t) ≤ version t
-    go true = omega arith
-    go false = omega arith
-
-sync_version : (t : Turn) (o : Operation) (f : FileId) → version (passes.sync t o f) ≤ version t
-unfolding passes.sync
-sync_version t o f = go (pages.is_hard t.here.store f.ino)
-  where
-    go : (b : Bool) → version (if b then passes.answer o answers.Hard t else keep o t) ≤ version t
-    go true = omega arith
-    go false = omega arith
-
 module _ (now : Stamp) where
   abbrev C : ThirdTurn → ThirdTurn → Type 0
-  C t u = ThirdChanges now t u
+  C t u = ThirdChanges None now t u
 
   -- Operations
+
+  quiesces : {within : Bounds} (t : Turn) (o : Operation) → Old within now t (passes.quiesce t o)
+  unfolding passes.quiesce
+  quiesces t o =
+      old_either (is_sent o) t _ _ (λ e. old_one (client.Operates t _) tt) (λ e. old_one (client.Says t (outputs.Answer o.op answers.Quiesced) tt) tt)
+
+  syncs : {within : Bounds} (t : Turn) (o : Operation) (f : FileId) → Old within now t (passes.sync t o f)
+  unfolding passes.sync
+  syncs t o f =
+      old_either (pages.is_hard t.here.store f.ino) t _ _ (λ e. old_one (client.Says t (outputs.Answer o.op answers.Hard) tt) tt)
+      (λ e. old_one (client.Operates t _) tt)
 
   serves_open : (os : List Operation) (ls : List Leave) (t : ThirdTurn) (s : ClientSession) (o : Operation) → session t ≡ Some s →
       is_serving t.plain.config s now ≡ true → server_of o.ask ≡ t.plain.here.server → C t (third.serve os ls t s o)
   unfolding third.serve
   serves_open os ls t s o e sv own =
       either (is_active ls (here t) o && used.is_open os t s o (file_of o.ask)) t _ _
-      (λ q. serves t o s e sv o.ask own
-      (λ ino f. open_uncut os t s o ino e (ap (used.is_open os t s o) (sym f) ∙ (and_true (is_active ls (here t) o) _ q).1)))
-      (λ q. keeps t o)
+      (λ q. serves t o s e sv o.ask own) (λ q. keeps t o)
 
   operates_by : (os : List Operation) (ls : List Leave) (t : ThirdTurn) (o : Operation) → server_of o.ask ≡ t.plain.here.server →
       C t (third.operate_by os ls t now o (session t))
@@ -91,28 +77,36 @@ module _ (now : Stamp) where
       go None e = keeps t o
       go (Some s) e =
           either (is_serving t.plain.config s now) t _ _ (λ sv. serves_open os ls t s o e sv own)
-          (λ sv. by_rule t (third.quiesced o) (old_pass (changes_by_quiesce [] now t.plain o) (quiesce_version t.plain o)))
+          (λ sv. by_rule t (third.quiesced o) (quiesces t.plain o))
 
   operates : (os : List Operation) (ls : List Leave) (t : ThirdTurn) (o : Operation) → C t (third.operate os ls t now o)
   unfolding third.operate third.operate_on
   operates os ls t o = either (is_of (here t) o) t _ _ (λ e. on o.ask refl (server_is _ _ e)) (λ e. keeps t o)
     where
       on : (ask : Ask) → o.ask ≡ ask → server_of o.ask ≡ t.plain.here.server → C t (third.operate_on os ls t now o ask)
-      on (asks.Sync f) e own = by_rule t (third.synced o (asks.Sync f)) (old_pass (changes_by_sync (o ∷ []) now t.plain o f (inl refl) e own) (sync_version t.plain o f))
+      on (asks.Sync f) e own = by_rule t (third.synced o (asks.Sync f)) (syncs t.plain o f)
       on ask e own = operates_by os ls t o own
 
-  operates_each : (os : List Operation) (ls : List Leave) (ns : List ℕ) (t : ThirdTurn) → C t (third.operate_numbers os ls now ns t)
+  operates_each : (os : List Operation) (ls : List Leave) (ns : List ℕ) (t : ThirdTurn) → Rises ns → AwaitTheirTurn ls ns t.leaves →
+      C t (third.operate_numbers os ls now ns t)
   unfolding third.operate_numbers third.operate_either
-  operates_each os ls [] t = Still t
-  operates_each os ls (op ∷ ops) t = both (go (find (state.is_operation_numbered op) os)) (operates_each os ls ops _)
+  operates_each os ls [] t r p = Still t
+  operates_each os ls (op ∷ ops) t r p =
+      both (go (find (state.is_operation_numbered op) os))
+      (operates_each os ls ops _ r.rest (await_on now os ls op ops t r.first p (find (state.is_operation_numbered op) os)))
     where
       go : (o : Option Operation) → C t (third.operate_either os ls now op t o)
-      go None = serves_leave t (find (state.is_leave_numbered op) ls)
+      go None =
+          serves_leave t (find (state.is_leave_numbered op) ls)
+          (λ x e. let z = found_at (state.is_leave_numbered op) ls x e in p x z.1 (inl (eqb-true x.op op z.0)))
       go (Some o) = operates os ls t o
 
   operates_all : (t : ThirdTurn) → C t (third.operations now t)
-  unfolding third.operations
-  operates_all t = both (by_rule t (with_operations []) (old_one (client.Operates t.plain []) tt)) (operates_each _ _ _ _)
+  unfolding third.operations plainly
+  operates_all t =
+      let ls : List Leave = filter (state.is_leave_of (here t)) t.leaves in
+      both (by_rule t (with_operations []) (old_one (client.Operates t.plain []) tt))
+      (operates_each t.plain.operations ls _ _ (rising_rises _) (λ l h i. (has_filter (state.is_leave_of (here t)) t.leaves l h).0))
 
   -- Requests: what an operation asks, with its run.
 
@@ -237,83 +231,121 @@ module _ (now : Stamp) where
   asking_whole s st None w = tt
   asking_whole s st (Some a) w = whole s.locks a.wanted.body w.new
 
-  -- What requests leave: what is outstanding is within the limit, and no page is changed.
-  module _ (within : Bounds) (t : Turn) (s : ClientSession) (e : t.here.session ≡ Some s) where
-    record Leaves (u : Turn) : Type 0 where
-      asked : SessionRight within.run u.here.session
-      version : version u ≤ version t
+  -- What requests send.
+  module _ (within : Bounds) where
+    abbrev O : Turn → Turn → Type 0
+    O t u = Old within now t u
 
-    sent_within : (u : Turn) (r : ClientSession) (body : Body) (cutting : Option ℕ) → version u ≤ version t → IsRun within.run body →
-        IsWhole r.locks body → Leaves (passes.ask u r now body cutting)
+    none_some : {A B : Type 0} (x : A) → ◌≡◌ {A = Option A} None (Some x) → B
+    none_some x q = cc
+
+    -- a new request, by a session that is as this one except for what waits to be sent
+    sends : (t : Turn) (s r : ClientSession) (body : Body) (cutting : Option ℕ) → t.here.session ≡ Some s → AsksNothing t.here.store.extents s r →
+        r.locks ≡ s.locks → CutsForgotten t.here.store body cutting → IsAsked r cutting body →
+        ((x : ℕ × PageNo) → map_in body ≡ Some x → pages.known_of t.here.store.extents x.0 x.1 ≡ None) → IsRun within.run body → IsWhole r.locks body →
+        O t (passes.ask t r now body cutting)
     unfolding passes.ask send asking
-    sent_within u r body cutting l h w = record { asked = (h, w); version = l }
+    sends t s r body cutting se a l c i f run w =
+        let u : ClientSession = passes.asking_session r now body cutting in
+        old_both
+        (old_one (client.Follows t s u se
+        (record { how = AsksNew s r now body cutting a c i; date = let z = ap (λ (x : Stamp). x.0) a.date in omega (arith, z); asks = λ x e. inr (f x e) }))
+        ((run, w), same_locks t.here s u (ap (λ (x : LockCache). x.rows) l) a.epoch))
+        (old_one (client.Says (with_session u t) _ tt) (Asks u (record { number = r.requests.next; body = body; sent = now }) now.0 refl refl))
 
-    none_within : s.requests.asked ≡ None → Leaves t
-    none_within n = record { asked = subst (SessionRight within.run) (sym e) (subst (RequestRight within.run s.locks) (sym n) tt); version = omega arith }
+    -- one that neither cuts a file nor asks where a page lies
+    sends_plainly : (t : Turn) (s r : ClientSession) (body : Body) → t.here.session ≡ Some s → AsksNothing t.here.store.extents s r → r.locks ≡ s.locks →
+        IsAsked r None body → map_in body ≡ None → IsRun within.run body → IsWhole r.locks body → O t (passes.ask t r now body None)
+    sends_plainly t s r body se a l i m run w = sends t s r body None se a l (λ ino p q c. none_some ino q) i (λ x q. none_some x (sym m ∙ q)) run w
 
-    alive_within : s.requests.asked ≡ None → Leaves (passes.keep_alive t s now)
+    alive : (t : Turn) (s : ClientSession) → t.here.session ≡ Some s → s.requests.asked ≡ None → s.due ≡ false → O t (passes.keep_alive t s now)
     unfolding passes.keep_alive
-    alive_within n = go (lease.is_renewing (lease.phase_of t.config s.lease now))
+    alive t s se n d =
+        old_either (lease.is_renewing (lease.phase_of t.config s.lease now)) t _ _
+        (λ e. sends_plainly t s s bodies.KeepAlive se (alike_stay t.here.store.extents s) refl (record { free = n; due = sym d; may = tt }) refl tt tt)
+        (λ e. old_still t)
+
+    -- the request of an operation
+    sends_for : (t : Turn) (s : ClientSession) (a : passes.Asking) → t.here.session ≡ Some s → s.requests.asked ≡ None → s.due ≡ false →
+        Wants s t.here.store a.wanted → IsRun within.run a.wanted.body → IsWhole s.locks a.wanted.body → O t (passes.ask_for t s now a)
+    unfolding passes.ask_for
+    sends_for t s a se n d w run whole = old_both (old_one (client.Operates t a.operations) tt) (go a.wanted.cut refl)
       where
-        go : (b : Bool) → Leaves (if b then passes.ask t s now bodies.KeepAlive None else t)
-        go true = sent_within t s bodies.KeepAlive None (omega arith) tt tt
-        go false = none_within n
+        u : Turn
+        u = with_operations a.operations t
 
-    for_within : (a : Option passes.Asking) → s.requests.asked ≡ None → AskingRun within.run a → AskingWhole s.locks a → Leaves (passes.ask_for_or t s now a)
-    unfolding passes.ask_for_or passes.ask_for pages.forget_from pages.drop_from
-    for_within None n h w = alive_within n
-    for_within (Some a) n h w = sent_within _ s a.wanted.body _ (cut a.wanted.cut) h w
-      where
-        cut : (c : Option (ℕ × PageNo)) → (passes.cut_store c t.here.store).pages.next_version ≤ version t
-        cut None = omega arith
-        cut (Some c) = omega arith
+        asked : (c : Option (ℕ × PageNo)) → a.wanted.cut ≡ c → IsAsked s (passes.file_cut c) a.wanted.body
+        asked c e = record { free = n; due = w.new ∙ sym d; may = subst (λ z. MayAsk s (passes.file_cut z) a.wanted.body) e w.may }
 
-    -- without an operation that may ask
-    new_within : s.requests.asked ≡ None → (s.due ≡ false → s.releases ≡ [] → is_serving t.config s now ≡ true → ⊥) → Leaves (passes.ask_new t s now)
-    unfolding passes.ask_new passes.reassert passes.ask_by passes.ask_release passes.ask_next
-    new_within n never = go s.due refl
-      where
-        next : s.due ≡ false → s.releases ≡ [] → (b : Bool) → is_serving t.config s now ≡ b →
-            Leaves (if b then passes.ask_for_or t s now (passes.first_asking t s now t.operations) else passes.keep_alive t s now)
-        next d r true v = absurd (never d r v)
-        next d r false v = alive_within n
+        go : (c : Option (ℕ × PageNo)) → a.wanted.cut ≡ c →
+            O u (passes.ask (with_store (passes.cut_store c t.here.store) u) s now a.wanted.body (passes.file_cut c))
+        go None e =
+            sends u s s a.wanted.body None se (alike_stay t.here.store.extents s) refl (λ ino p q k. none_some ino q) (asked None e) w.asks run whole
+        go (Some c) e =
+            old_both (old_one (client.Forgets u c.0 c.1 (w.cuts c e).0) tt)
+            (sends (with_store (pages.forget_from t.here.store c.0 c.1) u) s s a.wanted.body (Some c.0) se (alike_stay _ s) refl
+            (λ ino p q k. let i : c.0 ≡ ino = some_is q in let l : c.1 ≡ p = some_is (sym (w.cuts c e).2 ∙ k) in
+            record {
+              store = t.here.store;
+              idle = ap (pages.is_idle t.here.store) (sym i) ∙ (w.cuts c e).0;
+              is = ap (λ j. pages.forget_from t.here.store j c.1) i ∙ ap (λ r. pages.forget_from t.here.store ino r) l;
+            }) (asked (Some c) e) (λ x q. none_some x (sym (w.cuts c e).1 ∙ q)) run whole)
 
-        by : s.due ≡ false → (rs : List Release) → s.releases ≡ rs → Leaves (passes.ask_by t s now rs)
-        by d [] r = next d r (is_serving t.config s now) refl
-        by d (x ∷ xs) r = sent_within t (record s { releases = xs }) (bodies.Released x.ino x.g x.to) None (omega arith) tt tt
+    -- or a keep-alive
+    sends_for_or : (t : Turn) (s : ClientSession) (a : Option passes.Asking) → t.here.session ≡ Some s → s.requests.asked ≡ None → s.due ≡ false →
+        AskingAt s t.here.store a → AskingRun within.run a → AskingWhole s.locks a → O t (passes.ask_for_or t s now a)
+    unfolding passes.ask_for_or
+    sends_for_or t s None se n d w run whole = alive t s se n d
+    sends_for_or t s (Some a) se n d w run whole = sends_for t s a se n d w run whole
 
-        go : (b : Bool) → s.due ≡ b → Leaves (if b then passes.reassert t s now else passes.ask_by t s now s.releases)
-        go true d = sent_within t s (bodies.Reassert (locks.all_locks s.locks)) None (omega arith) tt refl
-        go false d = by d s.releases refl
+    module _ (t : Turn) (s : ClientSession) (e : t.here.session ≡ Some s) where
+      -- without an operation that may ask
+      sends_new : s.requests.asked ≡ None → (s.due ≡ false → s.releases ≡ [] → is_serving t.config s now ≡ true → ⊥) → O t (passes.ask_new t s now)
+      unfolding passes.ask_new passes.reassert passes.ask_by passes.ask_release passes.ask_next
+      sends_new n never = go s.due refl
+        where
+          next : s.due ≡ false → s.releases ≡ [] → (b : Bool) → is_serving t.config s now ≡ b →
+              O t (if b then passes.ask_for_or t s now (passes.first_asking t s now t.operations) else passes.keep_alive t s now)
+          next d r true v = absurd (never d r v)
+          next d r false v = alive t s e n d
 
-    asks_again : (tick : Bool) (q : Request) → s.requests.asked ≡ Some q → Old within now t (passes.repeat t s now tick q)
-    unfolding passes.repeat passes.ask_again send
-    asks_again tick q a =
-        old_either (passes.is_old t.config now tick q) t _ _
-        (λ b. old_both
-        (old_one (client.Follows t s (passes.again_session s now q) e
-        (record { how = AsksAgain s now q a; date = omega arith; asks = λ x i. inl (ap map_asked a ∙ i) })) tt)
-        (old_one (client.Says (with_session (passes.again_session s now q) t) _ tt)
-        (Asks (passes.again_session s now q) (record q { sent = now }) q.body refl refl refl)))
-        (λ b. old_still t)
+          by : s.due ≡ false → (rs : List Release) → s.releases ≡ rs → O t (passes.ask_by t s now rs)
+          by d [] r = next d r (is_serving t.config s now) refl
+          by d (x ∷ xs) r =
+              sends_plainly t s (record s { releases = xs }) _ e
+              (record { epoch = refl; requests = refl; cutting = refl; due = refl; date = refl; locks = LocksStay s.locks }) refl
+              (record { free = n; due = sym d; may = tt }) refl tt tt
 
-    asks_else : (tick : Bool) → (s.lease.condemned ≡ false → s.requests.asked ≡ None → s.due ≡ false → s.releases ≡ [] → is_serving t.config s now ≡ true → ⊥) →
-        Old within now t (passes.requests now tick t)
-    unfolding passes.requests passes.requests_by passes.requests_under passes.requests_at
-    asks_else tick never = subst (Old within now t) (sym (ap (passes.requests_by t now tick) e)) (go s.requests.asked refl)
-      where
-        final : s.requests.asked ≡ None → (b : Bool) → s.lease.condemned ≡ b → Leaves (if b then t else passes.ask_new t s now)
-        final n true c = none_within n
-        final n false c = new_within n (never c n)
+          go : (b : Bool) → s.due ≡ b → O t (if b then passes.reassert t s now else passes.ask_by t s now s.releases)
+          go true d =
+              sends_plainly t s s (bodies.Reassert (locks.all_locks s.locks)) e (alike_stay t.here.store.extents s) refl
+              (record { free = n; due = sym d; may = tt }) refl tt refl
+          go false d = by d s.releases refl
 
-        go : (o : Option Request) → s.requests.asked ≡ o → Old within now t (if s.lease.condemned then t else passes.requests_at t s now tick o)
-        go (Some q) a = old_either s.lease.condemned t _ _ (λ c. old_still t) (λ c. asks_again tick q a)
-        go None a =
-            let f = final a s.lease.condemned refl in
-            old_asks
-            (subst (passing.Changes [] passing.OnlyAsks now t)
-            (ap (passes.requests_by t now tick) e ∙ ap (λ o. if s.lease.condemned then t else passes.requests_at t s now tick o) a)
-            (requests_keep_or_ask now tick t)) f.asked f.version
+      asks_again : (tick : Bool) (q : Request) → s.requests.asked ≡ Some q → O t (passes.repeat t s now tick q)
+      unfolding passes.repeat passes.ask_again send
+      asks_again tick q a =
+          old_either (passes.is_old t.config now tick q) t _ _
+          (λ b. old_both
+          (old_one (client.Follows t s (passes.again_session s now q) e
+          (record { how = AsksAgain s now q a; date = omega arith; asks = λ x i. inl (ap map_asked a ∙ i) })) (tt, same_locks t.here s _ refl refl))
+          (old_one (client.Says (with_session (passes.again_session s now q) t) _ tt)
+          (Asks (passes.again_session s now q) (record q { sent = now }) now.0 refl refl)))
+          (λ b. old_still t)
+
+      asks_else : (tick : Bool) → (s.lease.condemned ≡ false → s.requests.asked ≡ None → s.due ≡ false → s.releases ≡ [] → is_serving t.config s now ≡ true → ⊥)
+          →
+          O t (passes.requests now tick t)
+      unfolding passes.requests passes.requests_by passes.requests_under passes.requests_at
+      asks_else tick never = subst (Old within now t) (sym (ap (passes.requests_by t now tick) e)) (under s.lease.condemned refl)
+        where
+          at : s.lease.condemned ≡ false → (o : Option Request) → s.requests.asked ≡ o → O t (passes.requests_at t s now tick o)
+          at c None a = sends_new a (never c a)
+          at c (Some q) a = asks_again tick q a
+
+          under : (b : Bool) → s.lease.condemned ≡ b → O t (if b then t else passes.requests_at t s now tick s.requests.asked)
+          under true c = old_still t
+          under false c = at c s.requests.asked refl
 
   requests : (tick : Bool) (t : ThirdTurn) → C t (third.requests now tick t)
   unfolding third.requests third.requests_by third.requests_under
@@ -333,10 +365,9 @@ module _ (now : Stamp) where
           either (third.may_operations_ask t s now) t _ _
           (λ m. let z = is_free t s m in let a = third.first_asking t s now t.plain.operations in
           by_rule t (third.asked_for s now a)
-          (let x = for_within (bounds t) t.plain s e a z.0 (first_within t s t.plain.operations)
-          (asking_whole s t.plain.here.store a (wants_first t s t.plain.operations)) in
-          old_asks (changes_by_ask_for_or now t.plain s a e z.0 z.1 (wants_first t s t.plain.operations)) x.asked x.version))
-          (λ m. by_rule t (passes.requests now tick) (asks_else (bounds t) t.plain s e tick (may_not s m)))
+          (sends_for_or (bounds None t) t.plain s a e z.0 z.1 (wants_first t s t.plain.operations) (first_within t s t.plain.operations)
+          (asking_whole s t.plain.here.store a (wants_first t s t.plain.operations))))
+          (λ m. by_rule t (passes.requests now tick) (asks_else (bounds None t) t.plain s e tick (may_not s m)))
 
   -- All passes
   pub passes_change : (tick : Bool) (t : ThirdTurn) → ThirdPasses now t (third.third_passes now tick t)

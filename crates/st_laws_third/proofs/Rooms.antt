@@ -1,26 +1,27 @@
 -- Changes of pages, reads and writes of a client of the third form are lists of changes.
 use Rattle.st_lemmas.proofs.Words
-use Words.{◌≡◌, ◌≤◌, ℕ, Bool, true, false, List, [], ◌∷◌, Option, Some, None, not, refl, ◌∙◌, arith, if◌then◌else◌, FileId, PageNo, Ask, CleanPage, DirtyPage, KnownExtent}
-use Words.{MappedBlock, Note, Operation, Stamp}
+use Words.{◌≡◌, ℕ, Bool, true, false, List, [], ◌∷◌, Option, Some, None, not, refl, ◌∙◌, if◌then◌else◌, FileId, PageNo, AppAnswer, Ask, CleanPage, DirtyPage}
+use Words.{KnownExtent, MappedBlock, Note, Operation, Stamp}
 use Words.asks
 use Words.answers
 use Words.modes
 use Words.notes
 use Words.outputs
 use Words.FlatLog.{overlay}
+use Rattle.st_base.specs.Page.{filled}
 use Words.ClientPages as pages
 use Words.ClientPasses as passes
-use Words.ClientState.{ClientSession, Turn, file_of, is_serving, keep, server_of}
+use Words.ClientState as cs
+use Words.ClientState.{ClientSession, Turn, is_serving, keep, server_of, with_store}
 use Words.Tables.{and_true, not_true}
 use Rattle.st_laws_steps.specs.Client.Client as client
 use Rattle.st_laws_steps.specs.Client.Client.{ChangesPage}
-use Rattle.st_laws_steps.proofs.Client.Passing.{Uncut}
-use Rattle.st_laws_steps.proofs.Client.Working.{changes_by_fetch, changes_by_read}
+use Rattle.st_laws_steps.proofs.Client.Working.{not_dirty}
 use Rattle.st_third.specs.Limits.{is_dirty_full}
 use Rattle.st_third.specs.Room as room
 use Rattle.st_third.specs.State.{ThirdTurn, plainly, session}
-use Rattle.st_laws_third.specs.Changes.{ThirdChanges, Still, WaitsForRoom, bounds}
-use Rattle.st_laws_third.proofs.Chains.{Old, both, by_rule, either, old_both, old_one, old_pass, old_still, one, version}
+use Rattle.st_laws_third.specs.Changes.{ThirdChanges, Bounds, Heard, Still, WaitsForRoom, bounds}
+use Rattle.st_laws_third.proofs.Chains.{Old, both, by_rule, either, old_both, old_either, old_one, old_still, one}
 
 -- what a write leaves of the session
 same_session : (now : Stamp) (at : List ℕ) (s : ClientSession) (tick : Bool) (t : ThirdTurn) (d : Option DirtyPage) →
@@ -37,61 +38,62 @@ same_session now at s tick t (Some d) = go (room.is_writable at t s now tick d)
     go true = out (pages.mapping_of t.plain.here.store.extents d.ino d.page)
     go false = refl
 
--- neither a fetch nor a read changes a page
-fetch_version : (t : Turn) (o : Operation) (f : FileId) (p : PageNo) → version (passes.fetch t o f p) ≤ version t
-unfolding passes.fetch passes.fetch_at passes.fetch_mapped passes.submit_read passes.submit_command
-fetch_version t o f p = go (pages.mapping_of t.here.store.extents f.ino p)
-  where
-    at : (m : MappedBlock) (b : Bool) → version (keep o (if b then t else passes.submit_read t f.ino p m)) ≤ version t
-    at m true = omega arith
-    at m false = omega arith
+-- Fetching and reading a page: neither changes one.
+module _ {within : Bounds} {now : Stamp} where
+  kept : (t : Turn) (o : Operation) → Old within now t (keep o t)
+  kept t o = old_one (client.Operates t _) tt
 
-    go : (m : Option MappedBlock) → version (keep o (passes.fetch_at t f p m)) ≤ version t
-    go None = omega arith
-    go (Some m) = at m (pages.is_being_read t.here.store.commands f.ino p)
+  answered : (t : Turn) (op : ℕ) (a : AppAnswer) → Old within now t (cs.answered t op a)
+  answered t op a = old_one (client.Says t (outputs.Answer op a) tt) tt
 
-use_version : (t : Turn) (o : Operation) (f : FileId) (p : PageNo) (bytes : List ℕ) → version (passes.read_cached t o f p bytes) ≤ version t
-unfolding passes.read_cached pages.use_page pages.use_at pages.use_clean
-use_version t o f p bytes = go (pages.dirty_of t.here.store.pages f.ino p)
-  where
-    at : (c : Option CleanPage) → (pages.use_at t.here.store.pages c).next_version ≤ version t
-    at None = omega arith
-    at (Some c) = omega arith
+  fetches : (t : Turn) (o : Operation) (f : FileId) (p : PageNo) → pages.cached t.here.store.pages f.ino p ≡ None → Old within now t (passes.fetch t o f p)
+  unfolding passes.fetch passes.fetch_at passes.fetch_mapped
+  fetches t o f p uncached = old_both (go (pages.mapping_of t.here.store.extents f.ino p) refl) (kept _ o)
+    where
+      go : (m : Option MappedBlock) → pages.mapping_of t.here.store.extents f.ino p ≡ m → Old within now t (passes.fetch_at t f p m)
+      go None e = old_still t
+      go (Some m) e =
+          old_either (pages.is_being_read t.here.store.commands f.ino p) t _ _ (λ b. old_still t)
+          (λ b. old_one (client.Reads t f.ino p m e (not_dirty (pages.clean_of t.here.store.pages f.ino p) (pages.dirty_of t.here.store.pages f.ino p) uncached)) tt)
 
-    go : (d : Option DirtyPage) → (pages.use_clean t.here.store.pages f.ino p d).next_version ≤ version t
-    go None = at (pages.clean_of t.here.store.pages f.ino p)
-    go (Some d) = omega arith
+  uses : (t : Turn) (ino : ℕ) (p : PageNo) → Old within now t (with_store (record t.here.store { pages = pages.use_page t.here.store.pages ino p }) t)
+  unfolding pages.use_page pages.use_clean pages.use_at
+  uses t ino p = go (pages.dirty_of t.here.store.pages ino p)
+    where
+      at : (c : Option CleanPage) → Old within now t (with_store (record t.here.store { pages = pages.use_at t.here.store.pages c }) t)
+      at None = old_still t
+      at (Some c) = old_one (client.Caches t (pages.with_newest t.here.store.pages.most_clean c t.here.store.pages.clean)) tt
 
-read_version : (t : Turn) (s : ClientSession) (o : Operation) (f : FileId) (p : PageNo) → version (passes.read t s o f p) ≤ version t
-unfolding passes.read passes.read_at passes.read_uncached passes.read_known
-read_version t s o f p = go (passes.holds s modes.S f)
-  where
-    known : (e : KnownExtent) (m : Option MappedBlock) → version (passes.read_known t o f p e m) ≤ version t
-    known e None = omega arith
-    known e (Some m) = fetch_version t o f p
+      go : (d : Option DirtyPage) → Old within now t (with_store (record t.here.store { pages = pages.use_clean t.here.store.pages ino p d }) t)
+      go (Some d) = old_still t
+      go None = at (pages.clean_of t.here.store.pages ino p)
 
-    uncached : (e : Option KnownExtent) → version (passes.read_uncached t o f p e) ≤ version t
-    uncached None = omega arith
-    uncached (Some e) = known e e.mapping
+  reads : (t : Turn) (s : ClientSession) (o : Operation) (f : FileId) (p : PageNo) → Old within now t (passes.read t s o f p)
+  unfolding passes.read passes.read_at passes.read_cached passes.read_uncached passes.read_known
+  reads t s o f p = old_either (passes.holds s modes.S f) t _ _ (λ e. go (pages.cached t.here.store.pages f.ino p) refl) (λ e. kept t o)
+    where
+      known : pages.cached t.here.store.pages f.ino p ≡ None → (e : KnownExtent) (m : Option MappedBlock) → Old within now t (passes.read_known t o f p e m)
+      known q e None = answered t o.op (answers.Read (filled 0))
+      known q e (Some m) = fetches t o f p q
 
-    at : (b : Option (List ℕ)) → version (passes.read_at t o f p b) ≤ version t
-    at None = uncached (pages.known_of t.here.store.extents f.ino p)
-    at (Some bytes) = use_version t o f p bytes
+      uncached : pages.cached t.here.store.pages f.ino p ≡ None → (e : Option KnownExtent) → Old within now t (passes.read_uncached t o f p e)
+      uncached q None = kept t o
+      uncached q (Some e) = known q e e.mapping
 
-    go : (b : Bool) → version (if b then passes.read_at t o f p (pages.cached t.here.store.pages f.ino p) else keep o t) ≤ version t
-    go true = at (pages.cached t.here.store.pages f.ino p)
-    go false = omega arith
+      go : (b : Option (List ℕ)) → pages.cached t.here.store.pages f.ino p ≡ b → Old within now t (passes.read_at t o f p b)
+      go None q = uncached q (pages.known_of t.here.store.extents f.ino p)
+      go (Some bytes) q = old_both (uses t f.ino p) (answered _ o.op (answers.Read bytes))
 
-module _ {now : Stamp} where
-  pub keeps : (t : ThirdTurn) (o : Operation) → ThirdChanges now t (plainly (keep o) t)
+module _ {got : Heard} {now : Stamp} where
+  pub keeps : (t : ThirdTurn) (o : Operation) → ThirdChanges got now t (plainly (keep o) t)
   keeps t o = by_rule t (keep o) (old_one (client.Operates t.plain _) tt)
 
   -- a page is changed, if there is room
   module _ (t : ThirdTurn) (o : Operation) where
-    waits : ThirdChanges now t (room.waiting_for_room o t)
+    waits : ThirdChanges got now t (room.waiting_for_room o t)
     waits = both (keeps t o) (one (WaitsForRoom (plainly (keep o) t) _))
 
-    finds_none : ThirdChanges now t (room.without_room t o)
+    finds_none : ThirdChanges got now t (room.without_room t o)
     unfolding room.without_room
     finds_none =
         either (room.is_hopeless t.plain.here.store) t _ _
@@ -99,47 +101,47 @@ module _ {now : Stamp} where
 
     module _ (s : ClientSession) (se : session t ≡ Some s) (sv : is_serving t.plain.config s now ≡ true) where
       changes_page : (f : FileId) (p : PageNo) (bytes : List ℕ) (n : Note) → f.server ≡ t.plain.here.server →
-          pages.is_mapped t.plain.here.store.extents f.ino p ≡ true → ChangesPage f p n → ThirdChanges now t (room.change_page t o f p bytes n)
+          pages.is_mapped t.plain.here.store.extents f.ino p ≡ true → ChangesPage f p n → ThirdChanges got now t (room.change_page t o f p bytes n)
       unfolding room.change_page passes.change
       changes_page f p bytes n own m h =
           either (is_dirty_full t.limits.dirty t.plain.here.store.pages f.ino p) t _ _ (λ e. finds_none)
           (λ e. by_rule t (room.changed o f p bytes n)
           (old_both (old_one (client.Writes t.plain s f p bytes n se sv own m h) e) (old_one (client.Says _ (outputs.Answer o.op answers.Written) tt) tt)))
 
-      writes_page : (f : FileId) (p : PageNo) (bytes : List ℕ) → f.server ≡ t.plain.here.server → ThirdChanges now t (room.write t s o f p bytes)
+      writes_page : (f : FileId) (p : PageNo) (bytes : List ℕ) → f.server ≡ t.plain.here.server → ThirdChanges got now t (room.write t s o f p bytes)
       unfolding room.write
       writes_page f p bytes own =
           either (passes.may_write t.plain s f p) t _ _
           (λ e. changes_page f p bytes (notes.Accepted f p bytes) own (and_true (passes.holds s modes.X f) _ e).1 (refl, refl)) (λ e. keeps t o)
 
-      patches : (f : FileId) (p : PageNo) (at : ℕ) (bytes : List ℕ) → f.server ≡ t.plain.here.server → Uncut t.plain f.ino →
-          ThirdChanges now t (room.patch t s o f p at bytes)
+      patches : (f : FileId) (p : PageNo) (at : ℕ) (bytes : List ℕ) → f.server ≡ t.plain.here.server →
+          ThirdChanges got now t (room.patch t s o f p at bytes)
       unfolding room.patch room.patch_at
-      patches f p at bytes own free =
+      patches f p at bytes own =
           either (passes.may_write t.plain s f p) t _ _
           (λ e. go (and_true (passes.holds s modes.X f) (pages.is_mapped t.plain.here.store.extents f.ino p) e).1
           (pages.cached t.plain.here.store.pages f.ino p) refl)
           (λ e. keeps t o)
         where
           go : pages.is_mapped t.plain.here.store.extents f.ino p ≡ true → (b : Option (List ℕ)) → pages.cached t.plain.here.store.pages f.ino p ≡ b →
-              ThirdChanges now t (room.patch_at t o f p at bytes b)
-          go m None q = by_rule t (room.fetched o f p) (old_pass (changes_by_fetch [] now t.plain o f p q free) (fetch_version t.plain o f p))
+              ThirdChanges got now t (room.patch_at t o f p at bytes b)
+          go m None q = by_rule t (room.fetched o f p) (fetches t.plain o f p q)
           go m (Some old) q = changes_page f p (overlay at bytes old) (notes.Patched f p at bytes) own m (refl, refl)
 
       -- an operation to which its file is open
-      pub serves : (ask : Ask) → server_of ask ≡ t.plain.here.server → ((ino : ℕ) → file_of ask ≡ Some ino → Uncut t.plain ino) →
-          ThirdChanges now t (room.serve_open t s o ask)
+      pub serves : (ask : Ask) → server_of ask ≡ t.plain.here.server →
+          ThirdChanges got now t (room.serve_open t s o ask)
       unfolding room.serve_open
-      serves (asks.Write f p bytes) own free = writes_page f p bytes own
-      serves (asks.Patch f p at bytes) own free = patches f p at bytes own (free f.ino refl)
-      serves (asks.Read f p) own free = by_rule t (room.read s o f p) (old_pass (changes_by_read [] now t.plain s o f p (free f.ino refl)) (read_version t.plain s o f p))
-      serves ask own free = keeps t o
+      serves (asks.Write f p bytes) own = writes_page f p bytes own
+      serves (asks.Patch f p at bytes) own = patches f p at bytes own
+      serves (asks.Read f p) own = by_rule t (room.read s o f p) (reads t.plain s o f p)
+      serves ask own = keeps t o
 
   -- Writes.
 
   module _ (at : List ℕ) (s : ClientSession) (tick : Bool) where
     writes_due : (t : ThirdTurn) (ino : ℕ) (p : PageNo) (d : DirtyPage) → session t ≡ Some s → pages.dirty_of t.plain.here.store.pages ino p ≡ Some d →
-        ThirdChanges now t (room.write_due at t s now tick d)
+        ThirdChanges got now t (room.write_due at t s now tick d)
     unfolding room.write_due passes.write_out passes.write_out_at
     writes_due t ino p d se e =
         either (room.is_writable at t s now tick d) t _ _
@@ -149,27 +151,27 @@ module _ {now : Stamp} where
         (pages.mapping_of t.plain.here.store.extents d.ino d.page) refl)) (λ w. Still t)
       where
         go : pages.is_being_written t.plain.here.store.commands d.ino d.page ≡ false → (m : Option MappedBlock) →
-            pages.mapping_of t.plain.here.store.extents d.ino d.page ≡ m → Old (bounds t) now t.plain (passes.write_out_at t.plain d m)
+            pages.mapping_of t.plain.here.store.extents d.ino d.page ≡ m → Old (bounds got t) now t.plain (passes.write_out_at t.plain d m)
         go w None i = old_still t.plain
         go w (Some m) i = old_one (client.Submits t.plain s ino p d m se e i w) tt
 
     writes_page_out : (t : ThirdTurn) (ino : ℕ) (p : PageNo) → session t ≡ Some s → (d : Option DirtyPage) → pages.dirty_of t.plain.here.store.pages ino p ≡ d →
-        ThirdChanges now t (room.write_page at t s now tick d)
+        ThirdChanges got now t (room.write_page at t s now tick d)
     unfolding room.write_page
     writes_page_out t ino p se None e = Still t
     writes_page_out t ino p se (Some d) e = writes_due t ino p d se e
 
-    writes_each : (xs : List (ℕ × PageNo)) (t : ThirdTurn) → session t ≡ Some s → ThirdChanges now t (room.write_each at s now tick xs t)
+    writes_each : (xs : List (ℕ × PageNo)) (t : ThirdTurn) → session t ≡ Some s → ThirdChanges got now t (room.write_each at s now tick xs t)
     unfolding room.write_each
     writes_each [] t se = Still t
     writes_each (x ∷ xs) t se =
         let d : Option DirtyPage = pages.dirty_of t.plain.here.store.pages x.0 x.1 in
         both (writes_page_out t x.0 x.1 se d refl) (writes_each xs (room.write_page at t s now tick d) (same_session now at s tick t d ∙ se))
 
-  pub writes : (tick : Bool) (t : ThirdTurn) → ThirdChanges now t (room.writes now tick t)
+  pub writes : (tick : Bool) (t : ThirdTurn) → ThirdChanges got now t (room.writes now tick t)
   unfolding room.writes room.writes_by
   writes tick t = go (session t) refl
     where
-      go : (x : Option ClientSession) → session t ≡ x → ThirdChanges now t (room.writes_by t now tick x)
+      go : (x : Option ClientSession) → session t ≡ x → ThirdChanges got now t (room.writes_by t now tick x)
       go None e = Still t
       go (Some s) e = writes_each (room.oldest t.room t.plain.here.store) s tick (pages.dirty_places t.plain.here.store.pages) t e

@@ -33,7 +33,7 @@ use Rattle.st_third.specs.UsedOnce.{reduced}
 use Rattle.st_third.specs.World as worlds
 use Rattle.st_third.specs.World.{ThirdWorld, third_world}
 use Rattle.st_laws_third.specs.Changes.{AsksRight, Bounds, Continues, IsRun, RunLimit, SameRun, WholeRun, FreeRun, Sends, Greets, Sees, Asks}
-use Rattle.st_laws_third.specs.Changes.{ThirdChange, Plainly, Says, Leaves, IsBeside, WaitsForRoom, Begins, GivesBack, Reduces, bounds}
+use Rattle.st_laws_third.specs.Changes.{Heard, ThirdChange, Plainly, Says, Leaves, IsBeside, WaitsForRoom, Begins, GivesBack, Reduces, bounds}
 use Rattle.st_laws_third.specs.ShortRuns.{EveryAllocationIsShort}
 use Rattle.st_laws_third.proofs.AllClients.{AllGood, good_after, good_first, good_said}
 use Rattle.st_laws_third.proofs.Chains.{RequestRun, SessionRun}
@@ -89,7 +89,7 @@ plain_asked within now t _ (client.Answers _ os ops a) n l f = f
 plain_asked within now t _ (client.Greets _ g) n l f = f
 plain_asked within now t _ (client.TellsLost _ lost) n l f = f
 plain_asked within now t _ (client.Begins _ s a b c) n l f = absurd n
-plain_asked within now t _ (client.Follows _ s u e g) n l f = change_asked within.run t.here.store s u g.how n l (subst (SessionRun RUN) e f)
+plain_asked within now t _ (client.Follows _ s u e g) n l f = change_asked within.run t.here.store s u g.how n.0 l (subst (SessionRun RUN) e f)
 plain_asked within now t _ (client.Learns _ e u h) n l f = f
 plain_asked within now t _ (client.Forgets _ ino p i) n l f = f
 plain_asked within now t _ (client.Caches _ clean) n l f = f
@@ -113,24 +113,24 @@ limit_short t b (WholeRun e) g = omega (arith, e)
 limit_short t b (FreeRun s q ino x p count e a i l) g =
     let z : count ≤ 64 = subst (IsRun RUN) i (subst (RequestRun RUN) a (subst (SessionRun RUN) e g.asked)) in omega (arith, z, l)
 
-change_short : (now : Stamp) (t u : ThirdTurn) → ThirdChange now t u → IsShort t.plain.here t.beside → IsShort u.plain.here u.beside
+change_short : {got : Heard} (now : Stamp) (t u : ThirdTurn) → ThirdChange got now t u → IsShort t.plain.here t.beside → IsShort u.plain.here u.beside
 unfolding Rattle.st_third.specs.State.say Rattle.st_third.specs.State.plainly
-change_short now t _ (Plainly _ u c p) g = record { asked = plain_asked (bounds t) now t.plain u c p g.run g.asked; run = g.run }
-change_short now t _ (Says _ o w) g = g
-change_short now t _ (Leaves _ ls) g = g
-change_short now t _ (IsBeside _ b l) g = record { asked = g.asked; run = limit_short t b l g }
-change_short now t _ (WaitsForRoom _ n) g = g
-change_short now t _ (Begins _ epoch stamp e f) g = record { asked = tt; run = g.run }
-change_short now t _ (GivesBack _ s l e h) g = record { asked = subst (SessionRun RUN) e g.asked; run = g.run }
-change_short now t _ (Reduces _ s d ino e q i) g = record { asked = reduced_asked t s d ino e g.asked; run = g.run }
+change_short {got} now t _ (Plainly _ u c p) g = record { asked = plain_asked (bounds got t) now t.plain u c p g.run g.asked; run = g.run }
+change_short {got} now t _ (Says _ o w) g = g
+change_short {got} now t _ (Leaves _ ls k) g = g
+change_short {got} now t _ (IsBeside _ b l) g = record { asked = g.asked; run = limit_short t b l g }
+change_short {got} now t _ (WaitsForRoom _ n) g = g
+change_short {got} now t _ (Begins _ epoch stamp e f w) g = record { asked = tt; run = g.run }
+change_short {got} now t _ (GivesBack _ s l e h) g = record { asked = subst (SessionRun RUN) e g.asked; run = g.run }
+change_short {got} now t _ (Reduces _ s d ino e q i) g = record { asked = reduced_asked t s d ino e g.asked; run = g.run }
 
-sent_short : (t : Turn) (b : Body) → Sends t b → SessionRun RUN t.here.session → IsRun RUN b
-sent_short t _ Greets f = tt
-sent_short t _ (Sees ino g) f = tt
-sent_short t b (Asks s q _ e p i) f = subst (IsRun RUN) (sym i) (subst (RequestRun RUN) p (subst (SessionRun RUN) e f))
+sent_short : (t : Turn) (m : Message) → Sends t m → SessionRun RUN t.here.session → IsRun RUN m.body
+sent_short t _ (Greets stamp) f = tt
+sent_short t _ (Sees s ino g e) f = tt
+sent_short t _ (Asks s q stamp e p) f = subst (RequestRun RUN) p (subst (SessionRun RUN) e f)
 
 word_short : (t : Turn) (o : ThirdOutput) → WordRight t o → SessionRun RUN t.here.session → WordShort o
-word_short t (says.Plain (outputs.Send m)) r f = sent_short t m.body r f
+word_short t (says.Plain (outputs.Send m)) r f = sent_short t m r f
 word_short t (says.Plain (outputs.Submit number at what)) r f = tt
 word_short t (says.Plain (outputs.Answer op a)) r f = tt
 word_short t (says.Plain (outputs.Note n)) r f = tt

@@ -20,7 +20,7 @@ use Rattle.st_third.specs.Leave as leaving
 use Rattle.st_third.specs.Limits.{limited_association}
 use Rattle.st_third.specs.Replies.{receive, receive_at}
 use Rattle.st_third.specs.State.{Beside, ThirdClient, ThirdClientTurn, ThirdTurn, at_each, at_these, enter, leave, only_at, plainly, session, third_turn}
-use Rattle.st_laws_third.specs.Changes.{ThirdChanges, ThirdFinishes, ThirdLeaves, ThirdLoses, ThirdPasses, HasLeft, IsLost, Lasts, Stays, with_plain}
+use Rattle.st_laws_third.specs.Changes.{Heard, ThirdChanges, ThirdFinishes, ThirdLeaves, ThirdLoses, ThirdPasses, HasLeft, IsLost, Lasts, Stays, with_plain}
 use Rattle.st_laws_third.specs.Pairs.{IsPaired}
 use Rattle.st_laws_third.specs.Sessions.{ClientsStepOn, Dates, EndsLife, SessionFine, StepsOn}
 use Rattle.st_laws_third.proofs.Facts.{changes_third, dates_same, dates_then}
@@ -105,14 +105,14 @@ module _ (k : Config) (now : Stamp) where
 
   -- One rule at one server.
   module _ (t : ThirdTurn) (c : t.plain.config ≡ k) where
-    pub changed : (u : ThirdTurn) → ThirdChanges now t u → R t.plain.here u.plain.here
+    pub changed : {got : Heard} (u : ThirdTurn) → ThirdChanges got now t u → R t.plain.here u.plain.here
     changed u cs =
         let n = changes_third now t u cs in
         let z : t.plain.here.life.0 ≡ u.plain.here.life.0 = ap (λ x. x.0) n.life in
         record { server = n.server; life = omega (arith, z); dates = subst (λ x. Dates x now (session t) (session u)) c n.dates; fit = n.fit; asks = n.asks }
 
     -- the settings stay
-    pub config_stays : (u : ThirdTurn) → ThirdChanges now t u → u.plain.config ≡ k
+    pub config_stays : {got : Heard} (u : ThirdTurn) → ThirdChanges got now t u → u.plain.config ≡ k
     config_stays u cs = let n = changes_third now t u cs in sym n.config ∙ c
 
     pub loses_it : (u : ThirdTurn) → ThirdLoses now t u → R t.plain.here u.plain.here

@@ -102,7 +102,7 @@ notes_seen sc c before n y e h = go n (subst (λ os. Has y (ev.client_notes (rec
     go (notes.Stolen d life) h = absurd h
     go (notes.CutDone f p) h = absurd h
 
-plain_seen_of : (sc : WorldTurn) (c : ClientId) (before : ClientState) (o : Output) (y : Observation) → sc.seen ≡ [] →
+pub plain_seen_of : (sc : WorldTurn) (c : ClientId) (before : ClientState) (o : Output) (y : Observation) → sc.seen ≡ [] →
     Has y (ev.client_says sc c before o).seen → SeenOf c (says.Plain o) (seen.Plain y)
 unfolding ev.client_says ev.sends ev.submits ev.answers_with
 plain_seen_of sc c before (outputs.Note n) y e h = notes_seen sc c before n y e h

@@ -1,12 +1,14 @@
 -- What the rules of a client of the third form do at one server, as a list of small changes: those of
 -- the first two forms, and a few more.
-use Rattle.std.specs.Prelude.{◌≡◌, ℕ, ◌+◌, ◌<◌, ◌≤◌, pred, Bool, true, false, List, Some, None}
+use Rattle.std.specs.Prelude.{◌≡◌, ℕ, ◌+◌, ◌<◌, ◌≤◌, ◌⊎◌, pred, Bool, true, false, List, [], Option, Some, None}
 use Rattle.st_base.specs.declared.ids.Epoch.{Epoch}
 use Rattle.st_base.specs.declared.ids.Stamp.{Stamp}
 use Rattle.st_base.specs.declared.ids.GrantNo.{GrantNo}
 use Rattle.st_base.specs.declared.ids.PageNo.{PageNo}
+use Rattle.st_base.specs.declared.mode.Mode.{Mode}
 use Rattle.st_messages.specs.declared.message.Body.{Body}
 use Rattle.st_messages.specs.declared.message.Body.TheVariants as bodies
+use Rattle.st_messages.specs.declared.message.Message.{Message}
 use Rattle.st_messages.specs.declared.output.Output.{Output}
 use Rattle.st_messages.specs.declared.output.Output.TheVariants as outputs
 use Rattle.st_rules.specs.declared.client.DemandedFile.{DemandedFile}
@@ -18,19 +20,20 @@ use Rattle.st_rules.specs.ClientLocks.{LockCache}
 use Rattle.st_rules.specs.ClientPages as pages
 use Rattle.st_rules.specs.ClientPages.{Store}
 use Rattle.st_rules.specs.ClientReplies as replies
-use Rattle.st_rules.specs.ClientState.{ClientSession, Turn}
+use Rattle.st_rules.specs.ClientState.{Association, ClientSession, Turn, header_of}
+use Rattle.st_rules.specs.Keys.{server_node}
 use Rattle.st_laws_steps.specs.Client.Client as client
 use Rattle.st_laws_steps.specs.Client.Client.{Change}
 use Rattle.st_laws_steps.specs.Client.Losses.{Ends, is_ended}
-use Rattle.st_laws_steps.specs.Client.Session.{SessionChange, AsksNew}
+use Rattle.st_laws_steps.specs.Client.Session.{SessionChange, AsksNew, IsReasserted}
 use Rattle.st_lemmas.specs.Lists.{Has}
 use Rattle.st_third.specs.declared.beside.Leave.{Leave}
 use Rattle.st_third.specs.declared.output.ThirdOutput.{ThirdOutput}
 use Rattle.st_third.specs.declared.output.ThirdOutput.TheVariants as says
 use Rattle.st_third.specs.GiveBack.{demanded}
-use Rattle.st_third.specs.Leave.{emptied, noted_lost}
+use Rattle.st_third.specs.Leave.{emptied, is_unasked, noted_lost}
 use Rattle.st_third.specs.Limits.{is_dirty_full, limited_session}
-use Rattle.st_third.specs.State.{Beside, RUN, ThirdTurn, here, say, session, with_beside, with_its_session}
+use Rattle.st_third.specs.State.{Beside, RUN, ThirdTurn, here, is_leave_of, say, session, with_beside, with_its_session}
 use Rattle.st_third.specs.UsedOnce.{reduced}
 
 -- with this turn of the first two forms
@@ -50,22 +53,72 @@ abbrev pub IsAnswer : Output → Type 0
 IsAnswer (outputs.Answer op a) = Unit {0}
 IsAnswer o = ⊥
 
--- an answer, or a word of the third form; but not the end of a life
-abbrev pub PlainWord : ThirdOutput → Type 0
-PlainWord (says.Plain o) = IsAnswer o
-PlainWord (says.Ended s life end) = ⊥
-PlainWord o = Unit {0}
+-- The ask of this number has left: it is a pending leave of the server, and nothing was asked in the session yet.
+pub record HasLeave (t : ThirdTurn) (op : ℕ) : Type 0 where
+  pub leave : Leave
+  pub pending : Has leave t.leaves
+  pub number : leave.op ≡ op
+  pub of_server : is_leave_of (here t) leave ≡ true
+  pub unasked : is_unasked (session t) ≡ true
 
--- What a client sends: a greeting, that a demand was seen, or what it asks.
-pub data Sends (t : Turn) : Body → Type 0 where
-  Greets : Sends t bodies.Hello
-  Sees : (ino : ℕ) (g : GrantNo) → Sends t (bodies.DemandSeen ino g)
-  Asks : (s : ClientSession) (q : Request) (b : Body) → t.here.session ≡ Some s → s.requests.asked ≡ Some q → b ≡ q.body → Sends t b
+-- an answer, or a word of the third form; but not the end of a life
+abbrev pub PlainWord : ThirdTurn → ThirdOutput → Type 0
+PlainWord t (says.Plain o) = IsAnswer o
+PlainWord t (says.Left op) = HasLeave t op
+PlainWord t (says.Ended s life end) = ⊥
+PlainWord t o = Unit {0}
+
+-- What a client sends: a greeting, that a demand was seen in a session, or what a session asks. Its header has the session's epoch.
+pub data Sends (t : Turn) : Message → Type 0 where
+  Greets : (stamp : ℕ) → Sends t (record { header = header_of t 0 0 stamp; body = bodies.Hello })
+  Sees : (s : ClientSession) (ino : ℕ) (g : GrantNo) → t.here.session ≡ Some s →
+      Sends t (record { header = header_of t s.epoch.0 0 0; body = bodies.DemandSeen ino g })
+  Asks : (s : ClientSession) (q : Request) (stamp : ℕ) → t.here.session ≡ Some s → s.requests.asked ≡ Some q →
+      Sends t (record { header = header_of t s.epoch.0 q.number stamp; body = q.body })
 
 -- a message is one of these
 abbrev pub SendsRight : Turn → Output → Type 0
-SendsRight t (outputs.Send m) = Sends t m.body
+SendsRight t (outputs.Send m) = Sends t m
 SendsRight t o = Unit {0}
+
+-- What a client may hear: a message, or an ask to leave.
+pub data HeardWord : Type 0 where
+  HeardMessage : Message → HeardWord
+  HeardLeave : Leave → HeardWord
+
+-- What is heard: the one that the client takes, if it takes one.
+abbrev pub Heard : Type 0
+Heard = Option HeardWord
+
+-- the association's server says this in its life there, and in this epoch
+pub record Hears (got : Heard) (a : Association) (epoch : ℕ) (b : Body) : Type 0 where
+  pub message : Message
+  pub is : got ≡ Some (HeardMessage message)
+  pub from : message.header.from ≡ server_node a.server
+  pub life : message.header.life ≡ a.life.0
+  pub in_epoch : message.header.epoch ≡ epoch
+  pub body : message.body ≡ b
+
+-- Why there is a lock under its number: it was among these, or the server granted or demanded it.
+pub data LockFrom (got : Heard) (a : Association) (rows : List HeldLock) (l : HeldLock) : Type 0 where
+  WasHeld : (k : HeldLock) → Has k rows → k.ino ≡ l.ino → k.g ≡ l.g → LockFrom got a rows l
+  IsGranted : (epoch : ℕ) (mode : Mode) → Hears got a epoch (bodies.Granted l.ino l.g mode) → LockFrom got a rows l
+  IsDemanded : (epoch : ℕ) (to : Mode) → Hears got a epoch (bodies.Demand l.ino l.g to) → LockFrom got a rows l
+
+-- Why a session has its epoch: the session before it had it, or the server has it.
+pub data EpochFrom (got : Heard) (a : Association) (old : Option ClientSession) (u : ClientSession) : Type 0 where
+  SameEpoch : (s : ClientSession) → old ≡ Some s → u.epoch ≡ s.epoch → EpochFrom got a old u
+  NewerEpoch : (b : Body) → Hears got a u.epoch.0 b → EpochFrom got a old u
+
+-- the locks of a session, if there is one
+abbrev pub locks_in : Option ClientSession → List HeldLock
+locks_in None = []
+locks_in (Some s) = s.locks.rows
+
+-- a session goes on, or begins: its locks and its epoch have a cause
+pub record GoesOnBy (got : Heard) (a : Association) (old : Option ClientSession) (u : ClientSession) : Type 0 where
+  pub locks : (l : HeldLock) → Has l u.locks.rows → LockFrom got a (locks_in old) l
+  pub epoch : EpochFrom got a old u
 
 -- a request for blocks is for no more pages than this limit of runs allows
 abbrev pub IsRun : ℕ → Body → Type 0
@@ -77,26 +130,28 @@ abbrev pub IsWhole : LockCache → Body → Type 0
 IsWhole c (bodies.Reassert rows) = rows ≡ locks.all_locks c
 IsWhole c b = Unit {0}
 
--- so is a new request
+-- so is a new request; and locks are reasserted while a request is outstanding
 abbrev pub AsksRight : (run : ℕ) (st : Store) (s u : ClientSession) → SessionChange st s u → Type 0
 AsksRight run st s _ (AsksNew _ r now body cutting a c i) = (IsRun run body) × (IsWhole r.locks body)
+AsksRight run st s _ (IsReasserted _) = (q : Request) × (s.requests.asked ≡ Some q)
 AsksRight run st s u c = Unit {0}
 
--- What bounds a change: how many pages a run may have, and how many pages may be dirty.
+-- What bounds a change: what is heard, how many pages a run may have, and how many pages may be dirty.
 pub record Bounds : Type 0 where
+  pub heard : Heard
   pub run : ℕ
   pub dirty : ℕ
 
 -- those of a turn
-abbrev pub bounds : ThirdTurn → Bounds
-bounds t = record { run = t.beside.run; dirty = t.limits.dirty }
+abbrev pub bounds : Heard → ThirdTurn → Bounds
+bounds got t = record { heard = got; run = t.beside.run; dirty = t.limits.dirty }
 
 -- A change of the first two forms, within bounds. It begins no session, sends nothing else, asks for no
--- longer run, and changes a page only if there is room for it.
+-- longer run, and changes a page only if there is room for it. A lock and an epoch that are new were heard.
 abbrev pub Continues : (within : Bounds) (now : Stamp) (t u : Turn) → Change now t u → Type 0
 Continues within now t _ (client.Begins _ s a b c) = ⊥
 Continues within now t _ (client.Says _ o p) = SendsRight t o
-Continues within now t _ (client.Follows _ s u e g) = AsksRight within.run t.here.store s u g.how
+Continues within now t _ (client.Follows _ s u e g) = (AsksRight within.run t.here.store s u g.how) × (GoesOnBy within.heard t.here (Some s) u)
 Continues within now t _ (client.Writes _ s f p bytes n se sv own m h) = is_dirty_full within.dirty t.here.store.pages f.ino p ≡ false
 Continues within now t u c = Unit {0}
 
@@ -108,46 +163,51 @@ pub data RunLimit (t : ThirdTurn) (b : Beside) : Type 0 where
   FreeRun : (s : ClientSession) (q : Request) (ino : ℕ) (g : GrantNo) (p : PageNo) (count : ℕ) → session t ≡ Some s →
       s.requests.asked ≡ Some q → q.body ≡ bodies.Allocate ino g p count → b.run < count → RunLimit t b
 
--- One change, by a rule at a moment.
-pub data ThirdChange (now : Stamp) : ThirdTurn → ThirdTurn → Type 0 where
+-- The leaves that are pending were pending before, but for the one that is asked.
+abbrev pub ArePending : Heard → List Leave → List Leave → Type 0
+ArePending got old new = (l : Leave) → Has l new → (Has l old) ⊎ (got ≡ Some (HeardLeave l))
+
+-- One change, by a rule at a moment, after something was heard or nothing.
+pub data ThirdChange (got : Heard) (now : Stamp) : ThirdTurn → ThirdTurn → Type 0 where
   -- one that the first two forms make too
-  Plainly : (t : ThirdTurn) (u : Turn) (c : Change now t.plain u) → Continues (bounds t) now t.plain u c → ThirdChange now t (with_plain u t)
+  Plainly : (t : ThirdTurn) (u : Turn) (c : Change now t.plain u) → Continues (bounds got t) now t.plain u c → ThirdChange got now t (with_plain u t)
   -- a word
-  Says : (t : ThirdTurn) (o : ThirdOutput) → PlainWord o → ThirdChange now t (say t o)
+  Says : (t : ThirdTurn) (o : ThirdOutput) → PlainWord t o → ThirdChange got now t (say t o)
   -- other leaves are pending
-  Leaves : (t : ThirdTurn) (ls : List Leave) → ThirdChange now t (with_leaves ls t)
+  Leaves : (t : ThirdTurn) (ls : List Leave) → ArePending got t.leaves ls → ThirdChange got now t (with_leaves ls t)
   -- other uses are owed, or runs have another limit, or the server was full at another time
-  IsBeside : (t : ThirdTurn) (b : Beside) → RunLimit t b → ThirdChange now t (with_beside b t)
+  IsBeside : (t : ThirdTurn) (b : Beside) → RunLimit t b → ThirdChange got now t (with_beside b t)
   -- more or fewer changes wait for room
-  WaitsForRoom : (t : ThirdTurn) (n : ℕ) → ThirdChange now t (with_room n t)
-  -- a session begins with the limit of its locks, by a fresh welcome
+  WaitsForRoom : (t : ThirdTurn) (n : ℕ) → ThirdChange got now t (with_room n t)
+  -- a session begins with the limit of its locks, by a fresh welcome in its epoch
   Begins : (t : ThirdTurn) (epoch : Epoch) (stamp : Stamp) → session t ≡ None → now.0 < stamp.0 + t.plain.config.renew →
-      ThirdChange now t (with_its_session (limited_session t.limits (replies.new_session epoch stamp)) t)
+      Hears got t.plain.here epoch.0 bodies.Welcome →
+      ThirdChange got now t (with_its_session (limited_session t.limits (replies.new_session epoch stamp)) t)
   -- a lock that is held is demanded by its own client, down to none
   GivesBack : (t : ThirdTurn) (s : ClientSession) (l : HeldLock) → session t ≡ Some s → Has l s.locks.rows →
-      ThirdChange now t (with_its_session (demanded l.ino s) t)
+      ThirdChange got now t (with_its_session (demanded l.ino s) t)
   -- an idle file is reduced to a demand
   Reduces : (t : ThirdTurn) (s : ClientSession) (d : DemandedFile) (ino : ℕ) → session t ≡ Some s → d.ino ≡ ino →
-      pages.is_idle t.plain.here.store ino ≡ true → ThirdChange now t (with_plain (reduced s (Some d) ino t.plain) t)
+      pages.is_idle t.plain.here.store ino ≡ true → ThirdChange got now t (with_plain (reduced s (Some d) ino t.plain) t)
 
 -- Changes, one after another.
-pub data ThirdChanges (now : Stamp) : ThirdTurn → ThirdTurn → Type 0 where
-  Still : (t : ThirdTurn) → ThirdChanges now t t
-  Then : (t u v : ThirdTurn) → ThirdChange now t u → ThirdChanges now u v → ThirdChanges now t v
+pub data ThirdChanges (got : Heard) (now : Stamp) : ThirdTurn → ThirdTurn → Type 0 where
+  Still : (t : ThirdTurn) → ThirdChanges got now t t
+  Then : (t u v : ThirdTurn) → ThirdChange got now t u → ThirdChanges got now u v → ThirdChanges got now t v
 
 -- Losing: a lease that has ended is lost, with a note, and nothing is left of the association but its
--- lost rows.
+-- lost rows. Nothing is heard; so it is with the ends of commands and with the passes.
 pub data ThirdLoses (now : Stamp) (t : ThirdTurn) : ThirdTurn → Type 0 where
   Lasts : is_ended t.plain.config now (session t) ≡ false → ThirdLoses now t t
   IsLost : (s : ClientSession) (v : ThirdTurn) → session t ≡ Some s → is_ended t.plain.config now (session t) ≡ true →
-      ThirdChanges now (with_plain (noted_lost t.plain) t) v → ThirdLoses now t (emptied v)
+      ThirdChanges None now (with_plain (noted_lost t.plain) t) v → ThirdLoses now t (emptied v)
 
 -- Ending: the end of the command of a number, done or failed, changes the pages of the association; and
 -- changes follow.
 pub record ThirdFinishes (now : Stamp) (number : ℕ) (ok : Bool) (t u : ThirdTurn) : Type 0 where
   pub middle : Turn
   pub ends : Ends number ok t.plain middle
-  pub rest : ThirdChanges now (with_plain middle t) u
+  pub rest : ThirdChanges None now (with_plain middle t) u
 
 -- Leaving: a life ends that has nothing left at its server, with the lease end that it has then.
 pub data ThirdLeaves (now : Stamp) (t : ThirdTurn) : ThirdTurn → Type 0 where
@@ -159,6 +219,6 @@ pub data ThirdLeaves (now : Stamp) (t : ThirdTurn) : ThirdTurn → Type 0 where
 pub record ThirdPasses (now : Stamp) (t u : ThirdTurn) : Type 0 where
   pub written : ThirdTurn
   pub left : ThirdTurn
-  pub works : ThirdChanges now t written
+  pub works : ThirdChanges None now t written
   pub leaves : ThirdLeaves now written left
-  pub asks : ThirdChanges now left u
+  pub asks : ThirdChanges None now left u

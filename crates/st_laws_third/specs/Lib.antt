@@ -2,6 +2,7 @@ pub mod FirstForms
 pub mod Pairs
 pub mod Changes
 pub mod Sessions
+pub mod Living
 pub mod Rules
 pub mod Welcomes
 pub mod Demands

@@ -7,6 +7,7 @@ ghost use Rattle.st_laws_third.specs.FewRows.{EveryReassertionIsFew};
 ghost use Rattle.st_laws_third.specs.FirstForms.{FirstHeadsStay, FirstRunsStay, FirstStepsStay};
 ghost use Rattle.st_laws_third.specs.FirstPromises.{EveryHardEntryStays};
 ghost use Rattle.st_laws_third.specs.Invariants.{EveryClientFits};
+ghost use Rattle.st_laws_third.specs.Living.{ClientsLiveOn};
 ghost use Rattle.st_laws_third.specs.Pairs.{ClientsStayPaired};
 ghost use Rattle.st_laws_third.specs.Rules.{RulesAreChanges};
 ghost use Rattle.st_laws_third.specs.Sessions.{ClientsStepOn};
@@ -49,6 +50,16 @@ pub fn third_rules_are_changes()
 /// welcome. Its dirty pages are still known as mapped.
 pub fn third_clients_step_on()
     ensures { ClientsStepOn }
+{}
+
+/// In a step of a client of the third form, a session goes on as long as its life does. What is new
+/// about it was heard: a lock under its number was granted or demanded by the message that the
+/// client takes, and the epoch is the message's. Each message that it sends goes to the server of
+/// an association, in a life from the one before the step to the one after; in the life after, all
+/// but a greeting has a session. A life ends only if that is told: its lease is lost, or its
+/// client left.
+pub fn third_clients_live_on()
+    ensures { ClientsLiveOn }
 {}
 
 /// In every run of the third form, when a session begins at a client, now is below the date of its

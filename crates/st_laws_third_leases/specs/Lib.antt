@@ -1,0 +1,3 @@
+pub mod Healthy
+pub mod Staying
+pub mod Young
