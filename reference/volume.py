@@ -153,8 +153,8 @@ class Volume:
 
     def waiting(self, state, server):
         """The asks that may take effect at a server, and have not."""
-        asks = [it for it in self.open.values() if it.server == server and self.may_take(state, it)]
-        return asks + [it for it in state.orphans if it.server == server]
+        return [it for it in (*self.open.values(), *state.orphans)
+                if it.server == server and self.may_take(state, it)]
 
     def name_effects(self, state, server):
         """The asks for names that may take effect without a line, and what they do."""

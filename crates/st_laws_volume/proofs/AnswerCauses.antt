@@ -163,6 +163,7 @@ module _ (t : World) (c : ClientId) (start : List (ℕ × Ask)) (input : ClientI
   Says op answers.NoFile = IsUnknown op ⊎ ((x n : ℕ) × IsRefusal op why.NoFile x n IsOfFile)
   Says op (answers.NoSpace x n) = IsRefusal op why.NoSpace x n IsOfPage
   Says op answers.NotHolder = (x n : ℕ) × IsRefusal op why.NotHolder x n IsAskedOf
+  Says op answers.TooManyLocks = (x n : ℕ) × IsRefusal op why.TooManyLocks x n IsOfFile
   Says op a = Unit {0}
 
   abbrev pub Fits : Given → Type 0
@@ -174,6 +175,7 @@ module _ (t : World) (c : ClientId) (start : List (ℕ × Ask)) (input : ClientI
   plain_says op answers.NoFile p = absurd p
   plain_says op (answers.NoSpace x n) p = absurd p
   plain_says op answers.NotHolder p = absurd p
+  plain_says op answers.TooManyLocks p = absurd p
   plain_says op a p = tt
 
   server_is : (s : ServerId) (o : Operation) → cs.is_of s o ≡ true → s ≡ cs.server_of o.ask
@@ -232,7 +234,8 @@ module _ (t : World) (c : ClientId) (start : List (ℕ × Ask)) (input : ClientI
       Refuses v (cs.file_asked y.cutting q.body) q.body o w a b answer → Says o.op answer
   refused_says now v y q m o _ a b _ i old r e k (walk.HasNoFile _ _ ino f p) =
       inr (a, b, refusal_said now v y q m o why.NoFile a b i old r e k IsOfFile (ino, f, p))
-  refused_says now v y q m o _ a b _ i old r e k (walk.HasTooManyLocks _ _ ino f p) = tt
+  refused_says now v y q m o _ a b _ i old r e k (walk.HasTooManyLocks _ _ ino f p) =
+      (a, b, refusal_said now v y q m o why.TooManyLocks a b i old r e k IsOfFile (ino, f, p))
   refused_says now v y q m o _ a b _ i old r e k (walk.HasNoSpace _ _ ino p f g z) =
       refusal_said now v y q m o why.NoSpace a b i old r e k IsOfPage (ino, p, f, g, z)
   refused_says now v y q m o _ a b _ i old r e k (walk.IsNoHolder _ _ f p) =

@@ -232,7 +232,7 @@ at_two P Q (it ∷ its) u p q = ((p.0, q.0), go (volume.step u it) p.1 q.1 (λ z
     go None a b f = tt
     go (Some z) a b f = f z a b
 
-at_parts : (fact : VolumeStep → Volume → Type 0) (xs ys : List VolumeStep) (u : Volume) → AtEachStep fact (xs ++ ys) u →
+pub at_parts : (fact : VolumeStep → Volume → Type 0) (xs ys : List VolumeStep) (u : Volume) → AtEachStep fact (xs ++ ys) u →
     AtEachStep fact xs u × OnSome (AtEachStep fact ys) (run xs u)
 unfolding AtEachStep run
 at_parts fact [] ys u h = (tt, h)

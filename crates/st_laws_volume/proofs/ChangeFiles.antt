@@ -64,7 +64,7 @@ lasts_session : (k : Config) (clock : Stamp) (o : Option ClientSession) → is_b
 lasts_session k clock None h = tt
 lasts_session k clock (Some s) h = ltb-true clock.0 (s.lease.date.0 + k.lease) h
 
-unheld_at : (f : FileId) (l now : ℕ) (xs : List Association) (a : Association) → Unheld f l now xs → Has a xs → Lasts l now a.session → f.server ≡ a.server →
+pub unheld_at : (f : FileId) (l now : ℕ) (xs : List Association) (a : Association) → Unheld f l now xs → Has a xs → Lasts l now a.session → f.server ≡ a.server →
     (held_in a.session f.ino).mode ≡ 0
 unheld_at f l now [] a u h = absurd h
 unheld_at f l now (x ∷ xs) a u (inl e) =

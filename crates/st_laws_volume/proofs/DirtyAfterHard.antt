@@ -60,7 +60,7 @@ module _ (asked : ℕ → Option Ask) where
   after_all s ino p b [] = b
   after_all s ino p b (o ∷ os) = after_all s ino p (after_output s ino p b o) os
 
-  after_last : (s : ServerId) (ino : ℕ) (p : PageNo) (b : Bool) (os : List Output) (o : Output) →
+  pub after_last : (s : ServerId) (ino : ℕ) (p : PageNo) (b : Bool) (os : List Output) (o : Output) →
       after_all s ino p b (os ++ o ∷ []) ≡ after_output s ino p (after_all s ino p b os) o
   after_last s ino p b [] o = refl
   after_last s ino p b (x ∷ os) o = after_last s ino p (after_output s ino p b x) os o
@@ -70,14 +70,14 @@ module _ (asked : ℕ → Option Ask) where
   CleanOf a out = (ino : ℕ) (p : PageNo) (d : DirtyPage) → pages.dirty_of a.store.pages ino p ≡ Some d → after_all a.server ino p false out ≡ false
 
   -- one more output that is no such answer
-  one_more : (a : Association) (out : List Output) (o : Output) →
+  pub one_more : (a : Association) (out : List Output) (o : Output) →
       ((ino : ℕ) (p : PageNo) (d : DirtyPage) → pages.dirty_of a.store.pages ino p ≡ Some d → after_output a.server ino p false o ≡ false) →
       CleanOf a out → CleanOf a (out ++ o ∷ [])
   one_more a out o g h ino p d e =
       after_last a.server ino p false out o ∙ (ap (λ b. after_output a.server ino p b o) (h ino p d e) ∙ g ino p d e)
 
   -- a note never is
-  note_quiet : (s : ServerId) (ino : ℕ) (p : PageNo) (n : Note) → after_note s ino p false n ≡ false
+  pub note_quiet : (s : ServerId) (ino : ℕ) (p : PageNo) (n : Note) → after_note s ino p false n ≡ false
   note_quiet s ino p (notes.Accepted f q bytes) = go (is_page_at s ino p f q)
     where
       go : (b : Bool) → (if b then false else false) ≡ false
@@ -98,7 +98,7 @@ module _ (asked : ℕ → Option Ask) where
   sync_asked syncs t op f q = ap asked (sym q.op_is) ∙ (f q.operation q.has ∙ ap (λ z. Some z) q.was_asked)
 
   -- its file has no dirty page
-  hard_here : (syncs : List Operation) (t : Turn) (op : ℕ) → AllAsked syncs → IsHardSync syncs t op → CleanOf t.here t.out →
+  pub hard_here : (syncs : List Operation) (t : Turn) (op : ℕ) → AllAsked syncs → IsHardSync syncs t op → CleanOf t.here t.out →
       CleanOf t.here (t.out ++ outputs.Answer op answers.Hard ∷ [])
   hard_here syncs t op f q h = one_more t.here t.out (outputs.Answer op answers.Hard) none h
     where
@@ -159,7 +159,7 @@ module _ (asked : ℕ → Option Ask) where
       go (Some y) q = (y, q)
       go None q = clash e (none_has test xs q x i)
 
-  written_clean : (t : Turn) (f : FileId) (p : PageNo) (bytes : List ℕ) (n : Note) → f.server ≡ t.here.server → ChangesPage f p n → CleanOf t.here t.out →
+  pub written_clean : (t : Turn) (f : FileId) (p : PageNo) (bytes : List ℕ) (n : Note) → f.server ≡ t.here.server → ChangesPage f p n → CleanOf t.here t.out →
       CleanOf (cp.with_pages_changed (pages.written t.here.store.pages f.ino p bytes) f.ino p (note t n)).here (t.out ++ outputs.Note n ∷ [])
   unfolding pages.written
   written_clean t f p bytes n own x h ino q d e =
@@ -241,7 +241,7 @@ module _ (asked : ℕ → Option Ask) where
   passes_here syncs now f t _ (only.Ends _) h = h
   passes_here syncs now f t v (Goes _ u _ ch q rest) h = passes_here syncs now f u v rest (change_here syncs now f t u ch q h)
 
-  passes_other : (syncs : List Operation) (now : Stamp) (b : Association) → AllAsked syncs → (t v : Turn) → Only (IsPassing syncs KeepsOrAsks) now t v →
+  pub passes_other : (syncs : List Operation) (now : Stamp) (b : Association) → AllAsked syncs → (t v : Turn) → Only (IsPassing syncs KeepsOrAsks) now t v →
       (b.server.0 ≡ t.here.server.0 → ⊥) → CleanOf b t.out → CleanOf b v.out
   passes_other syncs now b f t _ (only.Ends _) n h = h
   passes_other syncs now b f t v (Goes _ u _ ch q rest) n h =
@@ -303,7 +303,7 @@ module _ (asked : ℕ → Option Ask) where
       once : Once (map server_number al)
       clean : (b : Association) → Has b al → CleanOf b t.out
 
-    passes_known : (tick : Bool) (t : Turn) → AllAsked t.operations → AllAsked (cp.passes now tick t).operations
+    pub passes_known : (tick : Bool) (t : Turn) → AllAsked t.operations → AllAsked (cp.passes now tick t).operations
     passes_known tick t f =
         let z : Holds Known Free AnyCut (λ a e. tt) AnyEpoch Any Always now (cp.passes now tick t) =
         passed Known Free AnyCut (λ a e. tt) AnyEpoch Any Always now inputs.Tick (client_turn_of t) (keeps inputs.Tick (client_turn_of t)) tick t
@@ -398,10 +398,10 @@ module _ (asked : ℕ → Option Ask) where
     -- The whole step.
     module _ (c : ClientId) (s : ClientState) (input : ClientInput) (fit : (a : Association) → Has a s.associations → Fit a)
         (once : Once (map server_number s.associations)) (known : AllAsked s.operations) (tells : Tells Known AnyEpoch input) where
-      abbrev lost : ClientTurn
+      abbrev pub lost : ClientTurn
       lost = cl.losses (client_turn s []) now
 
-      abbrev told : ClientTurn
+      abbrev pub told : ClientTurn
       told = cl.take_input lost now input
 
       p : Phased c s now lost told (cl.work told now input)
@@ -412,7 +412,7 @@ module _ (asked : ℕ → Option Ask) where
           since_then Unhard [] lost.out told.out (record { more = lost.out; out = refl; each = losses_unhard now s })
           (input_unhard input lost told (taken lost now input) p.fit)
 
-      told_known : AllAsked told.state.operations
+      pub told_known : AllAsked told.state.operations
       told_known =
           let z =
           lost_all Known Free AnyCut (λ a e. tt) AnyEpoch Any Always now in_losses (λ a. tt) s
@@ -426,12 +426,16 @@ module _ (asked : ℕ → Option Ask) where
           (record { kept = tt; operations = z.operations; each = z.each }) in
           λ o i. (y.operations o i).0
 
-      told_once : Once (map server_number told.state.associations)
+      pub told_once : Once (map server_number told.state.associations)
       told_once =
           subst Once
           (servers_same (stepping.LostOrNot s.config now) (λ a b r. r.server) s.associations lost.state.associations p.lost.pairs
           ∙ servers_same (stepping.Goes lost.state.config now) (λ a b r. r.server) lost.state.associations told.state.associations p.received.pairs)
           once
+
+      pub told_clean : (b : Association) → Has b told.state.associations → CleanOf b told.out
+      told_clean b i ino q d e =
+          subst (λ os. after_all b.server ino q false os ≡ false) (sym out_unhard.out) (unhard_clean b.server ino q out_unhard.more out_unhard.each)
 
       pub step_clean : (b : Association) → Has b (cl.client_step s now input).state.associations → CleanOf b (cl.client_step s now input).out
       unfolding cl.client_step cl.work at_each
@@ -440,6 +444,5 @@ module _ (asked : ℕ → Option Ask) where
           (record {
             known = told_known;
             once = told_once;
-            clean = λ y j ino q d e. subst (λ os. after_all y.server ino q false os ≡ false) (sym out_unhard.out)
-                (unhard_clean y.server ino q out_unhard.more out_unhard.each);
+            clean = told_clean;
           }) b i

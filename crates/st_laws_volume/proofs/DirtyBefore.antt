@@ -54,7 +54,7 @@ notes_change s ino p (notes.Accepted f q bytes) = is_page_at s ino p f q
 notes_change s ino p (notes.Patched f q at bytes) = is_page_at s ino p f q
 notes_change s ino p n = false
 
-abbrev says_change : ServerId → ℕ → PageNo → Output → Bool
+abbrev pub says_change : ServerId → ℕ → PageNo → Output → Bool
 says_change s ino p (outputs.Note n) = notes_change s ino p n
 says_change s ino p (outputs.Send m) = false
 says_change s ino p (outputs.Submit number at what) = false
@@ -75,20 +75,20 @@ any_right p (x ∷ xs) ys q = or_right (p x) (list_any p (xs ++ ys)) (any_right 
 -- A step of a client, from a state.
 module _ (now : Stamp) (s : ClientState) where
   -- the page was dirty in that state, under a lease that isn't over
-  record Begun (server : ServerId) (ino : ℕ) (p : PageNo) : Type 0 where
-    a : Association
-    has : Has a s.associations
-    its : a.server ≡ server
-    going : is_ended s.config now a.session ≡ false
-    page : DirtyPage
-    dirty : pages.dirty_of a.store.pages ino p ≡ Some page
+  pub record Begun (server : ServerId) (ino : ℕ) (p : PageNo) : Type 0 where
+    pub a : Association
+    pub has : Has a s.associations
+    pub its : a.server ≡ server
+    pub going : is_ended s.config now a.session ≡ false
+    pub page : DirtyPage
+    pub dirty : pages.dirty_of a.store.pages ino p ≡ Some page
 
-  abbrev From : Association → List Output → Type 0
+  abbrev pub From : Association → List Output → Type 0
   From b out =
       (ino : ℕ) (p : PageNo) (d : DirtyPage) → pages.dirty_of b.store.pages ino p ≡ Some d →
       Begun b.server ino p ⊎ (list_any (says_change b.server ino p) out ≡ true)
 
-  from_more : (b : Association) (os ps : List Output) → Grows os ps → From b os → From b ps
+  pub from_more : (b : Association) (os ps : List Output) → Grows os ps → From b os → From b ps
   from_more b os ps g h ino p d e = go (h ino p d e)
     where
       go : Begun b.server ino p ⊎ (list_any (says_change b.server ino p) os ≡ true) → Begun b.server ino p ⊎ (list_any (says_change b.server ino p) ps ≡ true)
@@ -97,7 +97,7 @@ module _ (now : Stamp) (s : ClientState) where
           inr (subst (λ xs. list_any (says_change b.server ino p) xs ≡ true) (sym g.out) (any_left (says_change b.server ino p) os g.more k))
 
   -- what was dirty may no longer be so
-  fewer : (a b : Association) (out : List Output) → b.server ≡ a.server →
+  pub fewer : (a b : Association) (out : List Output) → b.server ≡ a.server →
       ((ino : ℕ) (p : PageNo) (d : DirtyPage) → pages.dirty_of b.store.pages ino p ≡ Some d →
       (x : DirtyPage) × (pages.dirty_of a.store.pages ino p ≡ Some x)) →
       From a out → From b out
@@ -106,7 +106,7 @@ module _ (now : Stamp) (s : ClientState) where
       subst (λ v. Begun v ino p ⊎ (list_any (says_change v ino p) out ≡ true)) (sym server) (h ino p z.0 z.1)
 
   -- one change
-  written : (t : Turn) (f : FileId) (p : PageNo) (bytes : List ℕ) (n : Note) → f.server ≡ t.here.server → ChangesPage f p n → From t.here t.out →
+  pub written : (t : Turn) (f : FileId) (p : PageNo) (bytes : List ℕ) (n : Note) → f.server ≡ t.here.server → ChangesPage f p n → From t.here t.out →
       From (cp.with_pages_changed (pages.written t.here.store.pages f.ino p bytes) f.ino p (note t n)).here (t.out ++ outputs.Note n ∷ [])
   unfolding pages.written
   written t f p bytes n own x h ino q d e = go (Place_is f.ino p ino q) refl
@@ -182,14 +182,14 @@ module _ (now : Stamp) (s : ClientState) where
   finished_from number ok t u f h = changes_from f.mid u (rest_of f) (ends_from number ok t f.mid f.ends h)
 
   -- A rule at each server in turn.
-  next_grows : (t u : Turn) → Next now t u → Grows t.out u.out
+  pub next_grows : (t u : Turn) → Next now t u → Grows t.out u.out
   next_grows t u n = record { more = n.more; out = n.out }
 
   record Rule (rule : Turn → Turn) : Type 0 where
     from : (t : Turn) → Fit t.here → From t.here t.out → From (rule t).here (rule t).out
     grows : (t : Turn) → Fit t.here → Grows t.out (rule t).out
 
-  abbrev EachFrom : List Association → List Output → Type 0
+  abbrev pub EachFrom : List Association → List Output → Type 0
   EachFrom al out = (b : Association) → Has b al → From b out
 
   these_from : (rule : Turn → Turn) → Rule rule → (al : List Association) (t : ClientTurn) → ((b : Association) → Has b al → Fit b) → EachFrom al t.out →
@@ -257,12 +257,22 @@ module _ (now : Stamp) (s : ClientState) where
                 dirty = ap (λ (x : Association). pages.dirty_of x.store.pages ino p) (r.lasts q) ∙ e;
               })
 
+  -- before the passes
+  pub told_from : (c : ClientId) (input : ClientInput) → ((b : Association) → Has b s.associations → Fit b) →
+      EachFrom (cl.take_input (cl.losses (client_turn s []) now) now input).state.associations
+      (cl.take_input (cl.losses (client_turn s []) now) now input).out
+  told_from c input f =
+      let t : ClientTurn = cl.losses (client_turn s []) now in
+      let u : ClientTurn = cl.take_input t now input in
+      let p : Phased c s now t u (cl.work u now input) = phased c s now input f in
+      input_from input t u (taken t now input) p.fit (lost_from t p.lost.pairs)
+
   step_from : (c : ClientId) (input : ClientInput) → ((b : Association) → Has b s.associations → Fit b) →
       EachFrom (cl.client_step s now input).state.associations (cl.client_step s now input).out
   unfolding cl.client_step cl.work
   step_from c input f =
       each_from (cp.passes now (cl.is_tick input)) (by_changes _ (λ x q. changes_by_passes now (cl.is_tick input) x)) u p.fit_too
-      (input_from input t u (taken t now input) p.fit (lost_from t p.lost.pairs))
+      (told_from c input f)
     where
       t : ClientTurn
       t = cl.losses (client_turn s []) now
@@ -302,7 +312,7 @@ module _ (c : ClientId) (server : ServerId) (ino : ℕ) (p : PageNo) where
   submit_lines None number at what sc q = q
   submit_lines (Some site) number at what sc q = any_left lined sc.seen _ q
 
-  output_lines : (before : ClientState) (o : Output) (sc : WorldTurn) → (list_any lined sc.seen ≡ true) ⊎ (says_change server ino p o ≡ true) →
+  pub output_lines : (before : ClientState) (o : Output) (sc : WorldTurn) → (list_any lined sc.seen ≡ true) ⊎ (says_change server ino p o ≡ true) →
       list_any lined (ev.client_says sc c before o).seen ≡ true
   unfolding ev.client_says ev.sends ev.answers_with
   output_lines before (outputs.Note n) sc h = note_lines before n sc h
@@ -329,6 +339,37 @@ module _ (c : ClientId) (server : ServerId) (ino : ℕ) (p : PageNo) where
 
 -- An event.
 module _ (past : List Step) (t : Traced) (e : Event) (sc : WorldTurn) (lives : LivesHold t.world) where
+  -- what was dirty as a client's step began
+  pub begun_was : (c : ClientId) (s : SiteStep t.world sc c) (b : Association) → Has b s.after.node.state.associations → (ino : ℕ) (p : PageNo) →
+      Begun (clock_of t.world (nodes.Client c)) s.site.node.state b.server ino p → WasDirty t.world c b ino p
+  begun_was c s b i ino p k =
+      record {
+        site = s.site;
+        there = s.there;
+        runs = s.runs;
+        a = k.a;
+        has = k.has;
+        server = k.its;
+        life =
+            ap (λ (x : Association). x.life) same ∙
+            (z.2.lasts (ap (λ (x : Association). is_ended s.site.node.state.config (clock_of t.world (nodes.Client c)) x.session) (sym same) ∙ k.going)).0;
+        page = k.page;
+        dirty = k.dirty;
+      }
+    where
+      n : NodeHolds t.world.config t.world.clocks t.world.ended c s.site.node
+      n = lives.lives.sites c s.site s.there
+
+      z : (a : Association) × Has a s.site.node.state.associations × LifeNext (clock_of t.world (nodes.Client c)) s.site.node.state a b
+      z = stepped t.world e sc lives c s b i
+
+      same : k.a ≡ z.0
+      same =
+          some_is
+          (sym (own_found s.site.node.state.associations n.once k.a k.has)
+          ∙ (ap (λ v. find (is_at v) s.site.node.state.associations) (k.its ∙ sym z.2.server)
+          ∙ own_found s.site.node.state.associations n.once z.0 z.1))
+
   by_step : (c : ClientId) (s : SiteStep t.world sc c) (b : Association) → Has b s.after.node.state.associations → (ino : ℕ) (p : PageNo) (d : DirtyPage) →
       pages.dirty_of b.store.pages ino p ≡ Some d → WasDirty t.world c b ino p ⊎ (list_any (is_change_of c b.server ino p) sc.seen ≡ true)
   by_step c s b i ino p d q =
@@ -340,36 +381,13 @@ module _ (past : List Step) (t : Traced) (e : Event) (sc : WorldTurn) (lives : L
       n : NodeHolds t.world.config t.world.clocks t.world.ended c s.site.node
       n = lives.lives.sites c s.site s.there
 
-      z : (a : Association) × Has a s.site.node.state.associations × LifeNext now s.site.node.state a b
-      z = stepped t.world e sc lives c s b i
-
       go : Begun now s.site.node.state b.server ino p ⊎
           (list_any (says_change b.server ino p) (cl.client_step s.site.node.state now s.input).out ≡ true) →
           WasDirty t.world c b ino p ⊎ (list_any (is_change_of c b.server ino p) sc.seen ≡ true)
       go (inr k) =
           inr (ap (list_any (is_change_of c b.server ino p)) s.says
           ∙ said_lines c b.server ino p s.site.node.state (cl.client_step s.site.node.state now s.input).out s.before (inr k))
-      go (inl k) =
-          inl (record {
-            site = s.site;
-            there = s.there;
-            runs = s.runs;
-            a = k.a;
-            has = k.has;
-            server = k.its;
-            life =
-                ap (λ (x : Association). x.life) same ∙
-                (z.2.lasts (ap (λ (x : Association). is_ended s.site.node.state.config now x.session) (sym same) ∙ k.going)).0;
-            page = k.page;
-            dirty = k.dirty;
-          })
-        where
-          same : k.a ≡ z.0
-          same =
-              some_is
-              (sym (own_found s.site.node.state.associations n.once k.a k.has)
-              ∙ (ap (λ v. find (is_at v) s.site.node.state.associations) (k.its ∙ sym z.2.server)
-              ∙ own_found s.site.node.state.associations n.once z.0 z.1))
+      go (inl k) = inl (begun_was c s b i ino p k)
 
   no_page : (d : DirtyPage) → ◌≡◌ {A = Option DirtyPage} None (Some d) → ⊥
   no_page d z = cc
@@ -380,7 +398,7 @@ module _ (past : List Step) (t : Traced) (e : Event) (sc : WorldTurn) (lives : L
   unfolding cl.start
   changed_by c (Stays q) site b ino p d there runs i k =
       inl (record { site = site; there = sym q ∙ there; runs = runs; a = b; has = i; server = refl; life = refl; page = d; dirty = k })
-  changed_by c (Steps s) site b ino p d there runs i k =
+  changed_by c (Steps s r q) site b ino p d there runs i k =
       by_step c s b (subst (λ (z : WorldClient). Has b z.node.state.associations) (some_is (sym there ∙ s.left)) i) ino p d k
   changed_by c (Crashes old q left stopped) site b ino p d there runs i k =
       absurd (clash runs (ap (λ (z : WorldClient). z.node.running) (some_is (sym there ∙ left)) ∙ stopped))

@@ -63,7 +63,7 @@ is_at_page : (ino : ℕ) (p : PageNo) (y : DirtyPage) → pages.is_dirty_of ino 
 is_at_page ino p y e =
     let z = and_true (y.ino == ino) (y.page.0 == p.0) e in (eqb-true y.ino ino z.0, ap (λ n. record { 0 = n }) (eqb-true y.page.0 p.0 z.1))
 
-put_once : (ino : ℕ) (p : PageNo) (new : DirtyPage) → new.ino ≡ ino → new.page ≡ p → (ds : List DirtyPage) → IsOnce ds →
+pub put_once : (ino : ℕ) (p : PageNo) (new : DirtyPage) → new.ino ≡ ino → new.page ≡ p → (ds : List DirtyPage) → IsOnce ds →
     IsOnce (put (pages.is_dirty_of ino p) new ds)
 unfolding put
 put_once ino p new i q [] h = (λ x j. absurd j, tt)
@@ -163,7 +163,7 @@ lose_once now t _ (IsLost s e n v c) h = tt
 abbrev RuleKeeps : (Turn → Turn) → Type 0
 RuleKeeps rule = (t : Turn) → Fit t.here → Keeps t (rule t)
 
-abbrev EachOnce : List Association → Type 0
+abbrev pub EachOnce : List Association → Type 0
 EachOnce al = (a : Association) → Has a al → IsOnce a.store.pages.dirty
 
 these_once : (rule : Turn → Turn) → RuleKeeps rule → (al : List Association) (t : ClientTurn) → ((b : Association) → Has b al → Fit b) → EachOnce al →
@@ -196,12 +196,22 @@ input_once now _ t _ (taking.Receives m e) f h =
 input_once now _ t _ (taking.Finishes number r) f h =
     each_once (cl.finish number r) (λ u p. finished_once now number (is_done r) u _ (finish_is now number r u)) t f h
 
+-- before the passes
+pub told_once : (c : ClientId) (s : ClientState) (now : Stamp) (input : ClientInput) → ((b : Association) → Has b s.associations → Fit b) →
+    EachOnce s.associations → EachOnce (cl.take_input (cl.losses (client_turn s []) now) now input).state.associations
+unfolding cl.losses
+told_once c s now input f h =
+    let t : ClientTurn = cl.losses (client_turn s []) now in
+    let u : ClientTurn = cl.take_input t now input in
+    let p : Phased c s now t u (cl.work u now input) = phased c s now input f in
+    input_once now input t u (taken t now input) p.fit (each_once (cl.lose now) (λ x q. lose_once now x _ (lose_is now x)) (client_turn s []) f h)
+
 step_once : (c : ClientId) (s : ClientState) (now : Stamp) (input : ClientInput) → ((b : Association) → Has b s.associations → Fit b) →
     EachOnce s.associations → EachOnce (cl.client_step s now input).state.associations
 unfolding cl.client_step cl.work cl.losses
 step_once c s now input f h =
     each_once (cp.passes now (cl.is_tick input)) (λ x q. changes_once now x _ (changes_by_passes now (cl.is_tick input) x)) u p.fit_too
-    (input_once now input t u (taken t now input) p.fit (each_once (cl.lose now) (λ x q. lose_once now x _ (lose_is now x)) (client_turn s []) f h))
+    (told_once c s now input f h)
   where
     t : ClientTurn
     t = cl.losses (client_turn s []) now

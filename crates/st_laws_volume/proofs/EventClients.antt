@@ -2,7 +2,7 @@
 use Rattle.st_lemmas.proofs.Words
 use Words.{◌≡◌, ◌≢◌, ◌⊎◌, ◌+◌, ℕ, Bool, true, false, List, [], ◌∷◌, ◌++◌, Option, Some, None, Ok, Err, refl, sym, ap, ◌∙◌, subst, inl, inr, if◌then◌else◌}
 use Words.{length, list_all}
-use Words.{Result, Ask, ClientId, Event, Stamp, NodeId, Note, Output, ClientInput, DiskCommand, ServerId, ServerInput, StepRefusal, IssuedCommand, SentMessage, Fate, LogEntry, Observation}
+use Words.{Result, Ask, ClientId, Event, Message, Stamp, NodeId, Note, Output, ClientInput, DiskCommand, ServerId, ServerInput, StepRefusal, IssuedCommand, SentMessage, Fate, LogEntry, Observation}
 use Words.events
 use Words.fates
 use Words.inputs
@@ -19,16 +19,19 @@ use Words.Disks as disks
 use Words.Events as ev
 use Words.Events.{WorldTurn, happens, is_same_instance, world_step}
 use Words.FlatLog as log
-use Words.Numbers.{numbered_below, numbered_other, numbered_own}
+use Words.Lists.{Has}
+use Words.Lookups.{some_is}
+use Words.Numbers.{numbered_below, numbered_has, numbered_other, numbered_own}
 use Words.Server as server
 use Words.Server.{ServerNode}
-use Words.Tables.{and_both, and_true, same_or_not}
+use Words.Tables.{and_both, and_true, has_map_in, same_or_not}
 use Words.World as world
 use Words.World.{World, WorldClient, clock_of, issued_of, message_of, node_of, numbered, receiver_of, site_of}
-use Words.Worlds.{stands_not}
+use Words.Worlds.{client_at_node, stands_not}
 use Rattle.st_rules.specs.declared.disks.Block.{Block}
 use Rattle.st_rules.specs.declared.node.StepRefusal.TheVariants.{Crashed}
 use Rattle.st_lemmas.proofs.Steps.{step_happens}
+use Rattle.st_laws_leases.specs.Dates.Dates.{message_in, messages}
 use Rattle.st_laws_pages.proofs.Causes.FlushSteps.{flushes_disks}
 use Rattle.st_laws_pages.proofs.Disks.Effects.{or_none}
 use Rattle.st_laws_pages.proofs.Disks.Opens.{OpensFrom, goes_effect, goes_report, opens_same}
@@ -37,12 +40,34 @@ use Rattle.st_laws_volume.proofs.CarriedEntries.{IsAt, IsFresh, Says, less_more,
 use Rattle.st_laws_volume.proofs.EventAnswers.{ByAsk, ByMessage, ByReport, ByTick, Stepping, TakesAt, all_give, given_by}
 use Rattle.std.specs.Prelude.{unwrap_or}
 
+-- A message that a client takes was sent to it.
+abbrev pub IsSentTo : World → ClientId → ClientInput → Type 0
+IsSentTo t d i = (m : Message) → i ≡ inputs.Control m → Has m (messages t) × (m.header.to ≡ d.0)
+
+sent_to : (t : World) (e : Event) (d : ClientId) (site : WorldClient) (i : ClientInput) → TakesAt t e d site i → IsSentTo t d i
+sent_to t e d site i z m q = go i z q
+  where
+    message_of_input : ClientInput → Option Message
+    message_of_input (inputs.Control m) = Some m
+    message_of_input i = None
+
+    go : (i : ClientInput) → TakesAt t e d site i → i ≡ inputs.Control m → Has m (messages t) × (m.header.to ≡ d.0)
+    go _ (ByTick q) i = cc i
+    go _ (ByAsk ask q) i = cc i
+    go _ (ByMessage k x q is r) i =
+        let same : x.message ≡ m = some_is (ap message_of_input i) in (
+          subst (λ y. Has y (messages t)) same (has_map_in message_in t.net.messages x (numbered_has t.net.messages k x is)),
+          ap (λ (y : Message). y.header.to) (sym same) ∙ client_at_node x.message.header.to d r,
+        )
+    go _ (ByReport k ok x r q j y o failed) i = cc i
+
 -- A step of a client that runs, with its lines.
 pub record SiteStep (t : World) (sc : WorldTurn) (d : ClientId) : Type 0 where
   pub site : WorldClient
   pub there : site_of t d ≡ Some site
   pub runs : site.node.running ≡ true
   pub input : ClientInput
+  pub comes : IsSentTo t d input
   pub after : WorldClient
   pub left : site_of sc.world d ≡ Some after
   pub node : after.node ≡ (cl.node_turn site.node (cl.client_step site.node.state (clock_of t (nodes.Client d)) input)).node
@@ -53,7 +78,7 @@ pub record SiteStep (t : World) (sc : WorldTurn) (d : ClientId) : Type 0 where
 
 pub data SiteNext (t : World) (e : Event) (sc : WorldTurn) (d : ClientId) : Type 0 where
   Stays : site_of sc.world d ≡ site_of t d → SiteNext t e sc d
-  Steps : SiteStep t sc d → SiteNext t e sc d
+  Steps : SiteStep t sc d → (r : Stepping t e sc) → r.client ≡ d → SiteNext t e sc d
   Crashes : (site : WorldClient) → e ≡ events.Crash (nodes.Client d) → site_of sc.world d ≡ Some site → site.node.running ≡ false → SiteNext t e sc d
   Starts : (old : WorldClient) → site_of t d ≡ Some old → old.node.running ≡ false → site_of sc.world d ≡ Some (ev.started_site old) → SiteNext t e sc d
 
@@ -204,6 +229,7 @@ module _ (t : World) (e : Event) where
           there = there;
           runs = ap (λ (n : cl.ClientNode). n.running) same ∙ runs;
           input = i;
+          comes = sent_to t e c old i z;
           after = after;
           left = ap (λ zs. numbered zs c.0) clients ∙ own;
           node =
@@ -261,7 +287,7 @@ module _ (t : World) (e : Event) where
     took = record { sites = λ d. go d (same_or_not d.0 c.0); opens = opened; who = inl (stepping, step) }
       where
         go : (d : ClientId) → (d.0 ≡ c.0) ⊎ (d.0 ≢ c.0) → SiteNext t e sc d
-        go d (inl q) = subst (SiteNext t e sc) (sym (ap (λ n. record { 0 = n }) q)) (Steps step)
+        go d (inl q) = subst (SiteNext t e sc) (sym (ap (λ n. record { 0 = n }) q)) (Steps step stepping refl)
         go d (inr n) =
             Stays
             (ap (λ zs. numbered zs d.0) clients

@@ -1,7 +1,7 @@
 -- The volume takes what an advance drops: each entry of a life that is over has its cause.
 use Rattle.st_lemmas.proofs.Words
 use Words.{◌≡◌, ◌≤◌, ℕ, zero, suc, ◌+◌, ◌&&◌, ◌==◌, Bool, true, false, List, [], ◌∷◌, Some, None, refl, sym, ap, ◌∙◌, subst, inl, inr, arith}
-use Words.{if◌then◌else◌, nat_lt, option_map, slice_get, eq-eqb, eqb-true, ClientId, FileId, PageNo, Fate, LogEntry, LogOwner, LeaseLife}
+use Words.{if◌then◌else◌, nat_lt, option_map, unwrap_or, slice_get, eq-eqb, eqb-true, ClientId, FileId, PageNo, Fate, LogEntry, LogOwner, LeaseLife}
 use Words.causes
 use Words.events
 use Words.fates
@@ -225,10 +225,11 @@ module _ (past : List Step) (w : World) (increments : List ℕ) (r : adm.refusal
       owner_is =
           ap (λ c. log.owner c l.life o.of.file o.of.page) of_life.client ∙ ap (λ k. log.owner o.of.client k o.of.file o.of.page) of_life.life
 
-      cause_is : option_map number_of (numbered w.commands (last_write w.commands (ev.owner_in l o.of.file o.of.page))) ≡ Some failed.0
+      cause_is : Some (unwrap_or (option_map number_of (numbered w.commands (last_write w.commands (ev.owner_in l o.of.file o.of.page)))) 0) ≡ Some failed.0
       cause_is =
-          ap (λ k. option_map number_of (numbered w.commands (last_write w.commands k))) owner_is
-          ∙ (ap (option_map number_of) failed.1.is ∙ ap (λ n. Some n) failed.1.number_is)
+          ap (λ o. Some (unwrap_or o 0))
+          (ap (λ k. option_map number_of (numbered w.commands (last_write w.commands k))) owner_is
+          ∙ (ap (option_map number_of) failed.1.is ∙ ap (λ n. Some n) failed.1.number_is))
 
       above : (n : ℕ) → 1 ≤ n → nat_lt 0 n ≡ true
       above n l = le-leb 1 n l

@@ -1,4 +1,4 @@
--- In every run a server that has no free block is full in the volume, if room was wanted for each page that it has mapped.
+-- In every run a server that has no free block is full in the volume, since room was wanted for each page that it has mapped.
 use Rattle.st_lemmas.proofs.Words
 use Words.{◌≡◌, ℕ, List, [], ◌∷◌, ◌++◌, Option, Some, None, Ok, refl, ap, ◌∙◌, subst, length, le-leb, nat_le, ServerId}
 use Words.Extents as extents
@@ -8,13 +8,14 @@ use Words.Numbers.{numbered_has}
 use Words.Safety.{Promise, Step, step, steps}
 use Words.Server.{ServerNode}
 use Words.World.{World, fresh_world, node_of}
+use Rattle.st_promises.specs.Safe.{EveryRunIsSafe}
 use Rattle.st_laws_pages.specs.Disks.Runs.{PagesAfter}
 use Rattle.st_laws_pages.specs.Disks.World.{PagesHold}
 use Rattle.st_laws_pages.proofs.Disks.Whole.{fresh_holds}
 use Rattle.st_laws_volume.specs.FullServers.{AreFull, FullServersHaveNoRoom}
 use Rattle.st_laws_volume.specs.Logs.{InEveryRun}
 use Rattle.st_laws_volume.specs.Options.{OnSome}
-use Rattle.st_laws_volume.specs.PageBlocks.{AllHaveRoom, AllLie, PagesLie, RoomIsWanted, WantedRoomIsFull}
+use Rattle.st_laws_volume.specs.PageBlocks.{AllHaveRoom, AllLie, PagesLie, RoomIsWanted}
 use Rattle.st_laws_volume.specs.Witness.{Witness, begun, led_by, led_from, led_to}
 use Rattle.st_laws_volume.proofs.Carried.{IsGiven, IsLed, given_in, led_more}
 use Rattle.st_laws_volume.proofs.ChangeLines.{on_both}
@@ -23,6 +24,7 @@ use Rattle.st_laws_volume.proofs.PagesLie.{LieHold, lie_begins, lie_kept}
 use Rattle.st_laws_volume.proofs.ReadPages.{throughout_both}
 use Rattle.st_laws_volume.proofs.RoomCounts.{blocks_wanted}
 use Rattle.st_laws_volume.proofs.RoomSizes.{Sized, SizesHold, sizes_begin, sizes_kept, sizes_of}
+use Rattle.st_laws_volume.proofs.RoomWanted.{room_is_wanted}
 use Rattle.st_volume.specs.Pages.{is_any}
 use Rattle.st_volume.specs.Volume.{Volume, numbered, places_at}
 
@@ -71,9 +73,9 @@ full_on sizes past t e sc it f g h = (
     q : led_to past x ≡ it
     q = h.led x refl
 
-pub wanted_room_is_full : InEveryRun PagesAfter → WantedRoomIsFull
+pub full_servers_have_no_room : EveryRunIsSafe → InEveryRun PagesAfter → InEveryRun FullServersHaveNoRoom
 unfolding FullToo begun led_from
-wanted_room_is_full pages room k clients servers disks blocks form es head events =
+full_servers_have_no_room safe pages k clients servers disks blocks form es head events =
     let t : Traced = traced (fresh_world k clients servers disks blocks form) in
     given_in Known (RoomHold (sizes_of k clients servers disks blocks form)) FullToo (full_on (sizes_of k clients servers disks blocks form)) es t
     (record {
@@ -82,5 +84,5 @@ wanted_room_is_full pages room k clients servers disks blocks form es head event
       lie = lie_begins k clients servers disks blocks form;
       pages = fresh_holds k clients servers disks blocks form;
     })
-    (throughout_both RoomIsWanted PagesAfter [] (steps es t) (room k clients servers disks blocks form es head events)
+    (throughout_both RoomIsWanted PagesAfter [] (steps es t) (room_is_wanted safe k clients servers disks blocks form es head events)
     (pages k clients servers disks blocks form es head events))

@@ -115,7 +115,7 @@ module _ (asked : ℕ → Option Ask) (c : ClientId) (s : ServerId) (ino : ℕ) 
   submit_so None number place what sc = refl
   submit_so (Some site) number place what sc = lines_last false sc.seen _
 
-  one_so : (before : ClientState) (o : Output) (sc : WorldTurn) → So o sc (ev.client_says sc c before o)
+  pub one_so : (before : ClientState) (o : Output) (sc : WorldTurn) → So o sc (ev.client_says sc c before o)
   unfolding ev.client_says ev.sends ev.answers_with
   one_so before (outputs.Send m) sc = lines_last false sc.seen _
   one_so before (outputs.Submit number place what) sc = submit_so (site_of sc.world c) number place what sc
@@ -157,7 +157,7 @@ module _ (past : List Step) (t : Traced) (e : Event) (sc : WorldTurn) (stand : S
         by None = ap (λ l. numbered l op) (append-nil (asks_of past r.client)) ∙ q
         by (Some y) = numbered_old (asks_of past r.client) y op ask q
 
-    known : (o : Operation) → Has o state.operations → asked o.op ≡ Some o.ask
+    pub known : (o : Operation) → Has o state.operations → asked o.op ≡ Some o.ask
     known o i = grown o.op o.ask ((stand.asks r.client r.site r.at).keys (key o) (has_map_in key state.operations o i))
 
     comes : (ask : Ask) → e ≡ events.App r.client ask → asked (r.site.asks + 1) ≡ Some ask
@@ -174,13 +174,13 @@ module _ (past : List Step) (t : Traced) (e : Event) (sc : WorldTurn) (stand : S
             ∙ ap (λ o. asks_of past r.client ++ cons_option o [])
             (ap (ask_in r.client) q ∙ ap (λ b. if b then Some ask else None) (eq-eqb r.client.0 r.client.0 refl))
 
-    tells : (i : ClientInput) → TakesAt t.world e r.client r.site i → Tells (λ op ask. asked op ≡ Some ask) (λ v n. Unit {0}) i
+    pub tells : (i : ClientInput) → TakesAt t.world e r.client r.site i → Tells (λ op ask. asked op ≡ Some ask) (λ v n. Unit {0}) i
     tells _ (ByTick q) = tt
     tells _ (ByAsk ask q) = comes ask q
     tells _ (ByMessage k m q z y) = λ s from. tt
     tells _ (ByReport k ok x result q i y z failed) = tt
 
-    holds : NodeHolds t.world.config t.world.clocks t.world.ended r.client r.site.node
+    pub holds : NodeHolds t.world.config t.world.clocks t.world.ended r.client r.site.node
     holds = stand.fates.lives.lives.sites r.client r.site r.at
 
     own_clean : (a : Association) → Has a r.after.node.state.associations → (ino : ℕ) (p : PageNo) (d : DirtyPage) →

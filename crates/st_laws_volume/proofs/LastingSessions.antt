@@ -42,7 +42,7 @@ pub record HasSession (v : World) (c : ClientId) (s : ServerId) : Type 0 where
   pub lasts : Lasts site.node.state.config.lease (clock_of v (nodes.Client c)).0 association.session
 
 -- Answers of lines and of outputs.
-in_lines : (os : List Observation) (c : ClientId) (op : ℕ) (a : AppAnswer) → Has (seen.Answered c op a) os →
+pub in_lines : (os : List Observation) (c : ClientId) (op : ℕ) (a : AppAnswer) → Has (seen.Answered c op a) os →
     Has (record { client = c; op = op; answer = a }) (given_in_lines os)
 in_lines [] c op a i = absurd i
 in_lines (o ∷ os) c op a (inl e) =
@@ -50,7 +50,7 @@ in_lines (o ∷ os) c op a (inl e) =
     (subst (λ (x : Observation). Has (record { client = c; op = op; answer = a }) (of_seen x)) e (inl refl))
 in_lines (o ∷ os) c op a (inr i) = has_right (of_seen o) (given_in_lines os) (record { client = c; op = op; answer = a }) (in_lines os c op a i)
 
-of_outputs : (c : ClientId) (os : List Output) (g : Given) → Has g (given_by c os) → (g.client ≡ c) × Has (outputs.Answer g.op g.answer) os
+pub of_outputs : (c : ClientId) (os : List Output) (g : Given) → Has g (given_by c os) → (g.client ≡ c) × Has (outputs.Answer g.op g.answer) os
 of_outputs c [] g i = absurd i
 of_outputs c (o ∷ os) g i = go (has_append (of_output c o) (given_by c os) g i) (λ j. of_outputs c os g j)
   where

@@ -1,32 +1,35 @@
--- In every run the volume takes answers that tell a read's bytes, `nospace` and `nofile`, if a fact of each that is left holds in every run.
+-- In every run the volume takes answers that tell a read's bytes, `nospace` and `nofile`.
 use Rattle.st_lemmas.proofs.Words
-use Words.{◌≡◌, ◌⊎◌, ℕ, ◌<◌, Bool, true, false, not, ◌&&◌, ◌||◌, ◌==◌, List, [], ◌∷◌, Option, Some, None, refl, sym, ap, ◌∙◌, subst, inl, inr}
+use Words.{◌≡◌, ◌⊎◌, ℕ, Bool, true, false, not, ◌&&◌, ◌||◌, ◌==◌, List, [], ◌∷◌, Option, Some, None, refl, ap, ◌∙◌, subst, inl, inr}
 use Words.{bytes_eq, eq-eqb, find, is_some, length, AppAnswer, Ask, ClientId, FileId, PageNo}
 use Words.answers
 use Words.asks
 use Words.History.{Traced, traced}
 use Words.Lookups.{if_true, or_left, or_right}
-use Words.Safety.{Promise, Step, Throughout, steps}
+use Words.Safety.{Promise, Step, steps}
 use Words.Tables.{and_both}
 use Words.World.{World, fresh_world}
 use Rattle.std.specs.Prelude.{option_and_then}
 use Rattle.std.proofs.lemmas.Slice.Eq.{bytes_eq-Decides}
-use Rattle.st_base.specs.declared.config.Config.{Config}
 use Rattle.st_promises.specs.Safe.{EveryRunIsSafe}
+use Rattle.st_laws_pages.specs.Disks.Runs.{PagesAfter}
 use Rattle.st_laws_volume.specs.AnswerKinds.{AnswersFollowLines, IsAfterLines, IsOfUndone, ResultsAreAnswered, is_no_file, is_no_space, is_read_answer}
-use Rattle.st_laws_volume.specs.FullServers.{FullServersAreNoticed, IsFullNoticed, IsOfFull}
-use Rattle.st_laws_volume.specs.LeftAnswers.{IsOfFree, IsOfLate, IsOfLateFile, LateAsksHaveNoticed, LateFilesAreMissed, NoFileIsTaken, NoSpaceIsTaken, ReadsAreTaken, ReadsFindTheirFiles}
+use Rattle.st_laws_volume.specs.FullServers.{FullServersAreNoticed, FullServersHaveNoRoom, IsFullNoticed, IsOfFull}
+use Rattle.st_laws_volume.specs.LateFiles.{IsOfLateFile, LateFilesAreMissed}
 use Rattle.st_laws_volume.specs.Logs.{InEveryRun}
-use Rattle.st_laws_volume.specs.NoFileAnswers.{CameLater, FilesAreMissing, IsMissing, IsNoFile}
+use Rattle.st_laws_volume.specs.NoFileAnswers.{CameLater, FilesAreMissing, IsNoFile}
 use Rattle.st_laws_volume.specs.Options.{OnSome}
+use Rattle.st_laws_volume.specs.ReadFiles.{IsOfFree, ReadsFindTheirFiles}
 use Rattle.st_laws_volume.specs.Reads.{HasBytes, IsRightRead, ReadsGiveThePages}
-use Rattle.st_laws_volume.specs.Refusals.{asks_before}
 use Rattle.st_laws_volume.specs.StepKinds.{AnswersAreToOpenAsks, AreTaken, AtEachStep, AtEachStepOf, IsOpenAt, StepsAreTaken}
 use Rattle.st_laws_volume.specs.Witness.{led_to, steps_of}
 use Rattle.st_laws_volume.proofs.AnswerLines.{Takes, at_two, taken_at}
 use Rattle.st_laws_volume.proofs.AnswersTold.{answers_follow_lines}
 use Rattle.st_laws_volume.proofs.ChangeLines.{on_both}
-use Rattle.st_laws_volume.proofs.FullNotices.{full_servers_are_noticed}
+use Rattle.st_laws_volume.proofs.FreeReads.{reads_find_their_files}
+use Rattle.st_laws_volume.proofs.FullRoom.{full_servers_have_no_room}
+use Rattle.st_laws_volume.proofs.LateAsks.{full_servers_are_noticed}
+use Rattle.st_laws_volume.proofs.LateFiles.{late_files_are_missed}
 use Rattle.st_laws_volume.proofs.NoFileAnswers.{files_are_missing}
 use Rattle.st_laws_volume.proofs.OpenAnswers.{answers_are_to_open_asks}
 use Rattle.st_laws_volume.proofs.Options.{on_more}
@@ -35,16 +38,16 @@ use Rattle.st_laws_volume.proofs.ReadPages.{throughout_both, throughout_more}
 use Rattle.st_laws_volume.proofs.UnresultedAnswers.{results_are_answered}
 use Rattle.st_volume.specs.declared.step.VolumeStep.{VolumeStep}
 use Rattle.st_volume.specs.declared.step.VolumeStep.TheVariants as kinds
-use Rattle.st_volume.specs.Pages.{content, is_any, place_of}
+use Rattle.st_volume.specs.Pages.{content, place_of}
 use Rattle.st_volume.specs.Volume as volume
 use Rattle.st_volume.specs.Volume.{Pending, Volume, answered, answers_so, is_ask, is_free, is_read, is_sync, server_of, tree_of}
 
 -- What is known of an answer: each entry has had its line, and the ask is open; and a fact of its kind.
-abbrev Known : (VolumeStep → Volume → Type 0) → VolumeStep → Volume → Type 0
+abbrev pub Known : (VolumeStep → Volume → Type 0) → VolumeStep → Volume → Type 0
 Known fact it u = IsAfterLines it u × (IsOpenAt it u × fact it u)
 
 -- It is taken if it fits its ask.
-takes : (u : Volume) (c : ClientId) (op : ℕ) (answer : AppAnswer) → u.lines ≡ length u.log → is_some (find (is_ask c op) u.pending) ≡ true →
+pub takes : (u : Volume) (c : ClientId) (op : ℕ) (answer : AppAnswer) → u.lines ≡ length u.log → is_some (find (is_ask c op) u.pending) ≡ true →
     ((a : Pending) → find (is_ask c op) u.pending ≡ Some a → answers_so u a answer a.result ≡ true) →
     is_some (volume.step u (kinds.Answered c op answer)) ≡ true
 takes u c op answer told there fits =
@@ -89,7 +92,7 @@ read_taken it u h = λ w. cc w
 
 -- An answer `nospace`
 abbrev SpaceFact : List Step → VolumeStep → Volume → Type 0
-SpaceFact past it u = IsFullNoticed past it u × IsOfLate past it u
+SpaceFact past it u = IsFullNoticed past it u
 
 space_taken : (past : List Step) (it : VolumeStep) (u : Volume) → Known (SpaceFact past) it u → Takes is_no_space it u
 space_taken past (kinds.Answered c op answer) u h = by answer h
@@ -98,17 +101,13 @@ space_taken past (kinds.Answered c op answer) u h = by answer h
     by (answers.NoSpace left wanted) h = λ w. takes u c op (answers.NoSpace left wanted) h.0 h.1.0 one
       where
         one : (a : Pending) → find (is_ask c op) u.pending ≡ Some a → answers_so u a (answers.NoSpace left wanted) a.result ≡ true
-        one a q = go (h.1.1.0 a q)
+        one a q = go (h.1.1 a q)
           where
-            full : (z : IsOfFull past a left wanted) → (a.full ≡ true) ⊎ (asks_before z.refused.full.refused a.client < a.op) → a.full ≡ true
-            full z (inl e) = e
-            full z (inr l) = h.1.1.1 a q z.refused l
-
             go : IsOfFull past a left wanted → answers_so u a (answers.NoSpace left wanted) a.result ≡ true
             go z =
                 ap (answers_so u a (answers.NoSpace left wanted)) z.refused.undone
                 ∙ and_both (a.full && is_some (place_of a.ask)) ((left == 0) && (wanted == 1))
-                (and_both a.full (is_some (place_of a.ask)) (full z z.noticed) (ap is_some z.refused.place))
+                (and_both a.full (is_some (place_of a.ask)) z.noticed (ap is_some z.refused.place))
                 (and_both (left == 0) (wanted == 1) (eq-eqb left 0 z.refused.none) (eq-eqb wanted 1 z.refused.one))
     by answer h = λ w. cc w
 space_taken past it u h = λ w. cc w
@@ -141,7 +140,7 @@ file_taken past w (kinds.Answered c op answer) u h = by answer h
 file_taken past w it u h = λ y. cc y
 
 -- At each step of a run.
-both_of : (P Q : VolumeStep → Volume → Type 0) (past : List Step) (x : Step) → AtEachStepOf P past x → AtEachStepOf Q past x →
+pub both_of : (P Q : VolumeStep → Volume → Type 0) (past : List Step) (x : Step) → AtEachStepOf P past x → AtEachStepOf Q past x →
     AtEachStepOf (λ it v. P it v × Q it v) past x
 both_of P Q past x h k =
     on_more (λ v. AtEachStep P (steps_of (led_to past x) v x) v × AtEachStep Q (steps_of (led_to past x) v x) v)
@@ -149,13 +148,13 @@ both_of P Q past x h k =
     (led_to past x).volume
     (on_both (λ v. AtEachStep P (steps_of (led_to past x) v x) v) (λ v. AtEachStep Q (steps_of (led_to past x) v x) v) (led_to past x).volume h k)
 
-each_more : (P Q : VolumeStep → Volume → Type 0) → ((it : VolumeStep) (u : Volume) → P it u → Q it u) → (its : List VolumeStep) (u : Volume) →
+pub each_more : (P Q : VolumeStep → Volume → Type 0) → ((it : VolumeStep) (u : Volume) → P it u → Q it u) → (its : List VolumeStep) (u : Volume) →
     AtEachStep P its u → AtEachStep Q its u
 unfolding AtEachStep
 each_more P Q f [] u h = tt
 each_more P Q f (it ∷ its) u h = (f it u h.0, on_more (AtEachStep P its) (AtEachStep Q its) (λ v k. each_more P Q f its v k) (volume.step u it) h.1)
 
-taken_of : (which : VolumeStep → Bool) (fact : VolumeStep → Volume → Type 0) → ((it : VolumeStep) (u : Volume) → Known fact it u → Takes which it u) →
+pub taken_of : (which : VolumeStep → Bool) (fact : VolumeStep → Volume → Type 0) → ((it : VolumeStep) (u : Volume) → Known fact it u → Takes which it u) →
     (past : List Step) (x : Step) → AnswersFollowLines past x → AnswersAreToOpenAsks past x → AtEachStepOf fact past x → StepsAreTaken which past x
 taken_of which fact f past x lines open_ h =
     on_more (λ v. AtEachStep (Known fact) (steps_of (led_to past x) v x) v) (λ v. AreTaken which (steps_of (led_to past x) v x) v)
@@ -164,7 +163,7 @@ taken_of which fact f past x lines open_ h =
     (both_of IsAfterLines (λ it v. IsOpenAt it v × fact it v) past x lines (both_of IsOpenAt fact past x open_ h))
 
 -- a kind of answers, by facts of every run
-in_runs : (A B : Promise) (which : VolumeStep → Bool) → EveryRunIsSafe →
+pub in_runs : (A B : Promise) (which : VolumeStep → Bool) → EveryRunIsSafe →
     ((past : List Step) (x : Step) → AnswersFollowLines past x → AnswersAreToOpenAsks past x → A past x → B past x → StepsAreTaken which past x) →
     InEveryRun A → InEveryRun B → InEveryRun (StepsAreTaken which)
 in_runs A B which safe f h g k clients servers disks blocks form es head events =
@@ -177,8 +176,8 @@ in_runs A B which safe f h g k clients servers disks blocks form es head events 
     (throughout_both A B [] (steps es t) (h k clients servers disks blocks form es head events) (g k clients servers disks blocks form es head events)))
 
 -- In every run.
-pub reads_are_taken : EveryRunIsSafe → ReadsAreTaken
-reads_are_taken safe free k clients servers disks blocks form es head events =
+pub reads_are_taken : EveryRunIsSafe → InEveryRun (StepsAreTaken is_read_answer)
+reads_are_taken safe k clients servers disks blocks form es head events =
     in_runs ResultsAreAnswered (λ past x. ReadsGiveThePages past x × ReadsFindTheirFiles past x) is_read_answer safe
     (λ past x l o a b.
     taken_of is_read_answer ReadFact read_taken past x l o
@@ -186,19 +185,21 @@ reads_are_taken safe free k clients servers disks blocks form es head events =
     (results_are_answered safe)
     (λ k clients servers disks blocks form es head events.
     throughout_both ReadsGiveThePages ReadsFindTheirFiles [] (steps es (traced (fresh_world k clients servers disks blocks form)))
-    (reads_give_the_pages safe k clients servers disks blocks form es head events) (free k clients servers disks blocks form es head events))
+    (reads_give_the_pages safe k clients servers disks blocks form es head events) (reads_find_their_files safe k clients servers disks blocks form es head events))
     k clients servers disks blocks form es head events
 
-pub no_space_is_taken : EveryRunIsSafe → NoSpaceIsTaken
-no_space_is_taken safe room late =
-    in_runs FullServersAreNoticed LateAsksHaveNoticed is_no_space safe
-    (λ past x l o a b. taken_of is_no_space (SpaceFact past) (space_taken past) past x l o (both_of (IsFullNoticed past) (IsOfLate past) past x a b))
-    (full_servers_are_noticed safe room) late
+pub no_space_is_taken : EveryRunIsSafe → InEveryRun PagesAfter →
+    InEveryRun (StepsAreTaken is_no_space)
+no_space_is_taken safe pages k clients servers disks blocks form es head events =
+    in_runs FullServersAreNoticed FullServersHaveNoRoom is_no_space safe
+    (λ past x l o a b. taken_of is_no_space (SpaceFact past) (space_taken past) past x l o a)
+    (full_servers_are_noticed safe pages) (full_servers_have_no_room safe pages) k clients servers
+    disks blocks form es head events
 
-pub no_file_is_taken : EveryRunIsSafe → NoFileIsTaken
-no_file_is_taken safe late =
+pub no_file_is_taken : EveryRunIsSafe → InEveryRun (StepsAreTaken is_no_file)
+no_file_is_taken safe =
     in_runs FilesAreMissing LateFilesAreMissed is_no_file safe
     (λ past x l o a b.
     taken_of is_no_file (FileFact past x.before.world) (file_taken past x.before.world) past x l o
     (both_of (IsNoFile past x.before.world) (IsOfLateFile past x.before.world) past x a b))
-    (files_are_missing safe) late
+    (files_are_missing safe) (late_files_are_missed safe)

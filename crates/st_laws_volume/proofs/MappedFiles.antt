@@ -63,19 +63,19 @@ pub entry_file : (n : Names) (ino : ℕ) → IsSound n → IsFileEntry n ino →
 entry_file n ino s f = sym (ap (names.is_file n) f.its) ∙ (file_at n s f.entry f.has ∙ ap not f.plain)
 
 -- An entry stays, perhaps in another place.
-record Stayed (m : Names) (e : NameEntry) : Type 0 where
-  entry : NameEntry
-  has : Has entry m.entries
-  its : entry.ino ≡ e.ino
-  kind : entry.directory ≡ e.directory
+pub record Stayed (m : Names) (e : NameEntry) : Type 0 where
+  pub entry : NameEntry
+  pub has : Has entry m.entries
+  pub its : entry.ino ≡ e.ino
+  pub kind : entry.directory ≡ e.directory
 
-abbrev Stay : Names → Names → Type 0
+abbrev pub Stay : Names → Names → Type 0
 Stay n m = (e : NameEntry) → Has e n.entries → Stayed m e
 
 same_entry : (m : Names) (e : NameEntry) → Has e m.entries → Stayed m e
 same_entry m e h = record { entry = e; has = h; its = refl; kind = refl }
 
-files_stay : (n m : Names) → Stay n m → IsSound m → (ino : ℕ) → names.is_file n ino ≡ true → names.is_file m ino ≡ true
+pub files_stay : (n m : Names) → Stay n m → IsSound m → (ino : ℕ) → names.is_file n ino ≡ true → names.is_file m ino ≡ true
 files_stay n m h s ino f =
     let e = file_entry n ino f in
     let x = h e.entry e.has in
@@ -105,11 +105,11 @@ add_stays n dir name directory d q e h = go (names.place_refusal n dir name) q
     go (Some r) q = cc
     go None q = beside (names.entry_at n dir name) q
 
-create_stays : (n : Names) (dir : ℕ) (name : List ℕ) (d : names.Changed) → names.create n dir name ≡ Ok d → Stay n d.names
+pub create_stays : (n : Names) (dir : ℕ) (name : List ℕ) (d : names.Changed) → names.create n dir name ≡ Ok d → Stay n d.names
 unfolding names.create
 create_stays n dir name d q = add_stays n dir name false d q
 
-mkdir_stays : (n : Names) (dir : ℕ) (name : List ℕ) (d : names.Changed) → names.mkdir n dir name ≡ Ok d → Stay n d.names
+pub mkdir_stays : (n : Names) (dir : ℕ) (name : List ℕ) (d : names.Changed) → names.mkdir n dir name ≡ Ok d → Stay n d.names
 unfolding names.mkdir
 mkdir_stays n dir name d q = add_stays n dir name true d q
 
@@ -123,7 +123,7 @@ move_stays dir name dir2 name2 e = go (names.is_entry_at dir name e)
     go true = (refl, refl)
     go false = (refl, refl)
 
-rename_stays : (n : Names) (dir : ℕ) (name : List ℕ) (dir2 : ℕ) (name2 : List ℕ) (d : names.Changed) → names.rename n dir name dir2 name2 ≡ Ok d →
+pub rename_stays : (n : Names) (dir : ℕ) (name : List ℕ) (dir2 : ℕ) (name2 : List ℕ) (d : names.Changed) → names.rename n dir name dir2 name2 ≡ Ok d →
     Stay n d.names
 unfolding names.rename names.rename_at names.rename_found names.rename_entry names.rename_free names.renamed
 rename_stays n dir name dir2 name2 d q e h = go (option_or (names.place_refusal n dir name) (names.place_refusal n dir2 name2)) q
@@ -193,7 +193,7 @@ remove_stays n s dir name d q e h = go (names.place_refusal n dir name) q
     go None q = at (names.entry_at n dir name) refl q
 
 -- other files than the one that goes
-others_stay : (n : Names) → IsSound n → (dir : ℕ) (name : List ℕ) (d : names.Changed) → names.remove n dir name ≡ Ok d → (ino : ℕ) →
+pub others_stay : (n : Names) → IsSound n → (dir : ℕ) (name : List ℕ) (d : names.Changed) → names.remove n dir name ≡ Ok d → (ino : ℕ) →
     (ino ≡ d.ino → ⊥) → names.is_file n ino ≡ true → names.is_file d.names ino ≡ true
 others_stay n s dir name d q ino o f =
     let e = file_entry n ino f in by e (remove_stays n s dir name d q e.entry e.has)

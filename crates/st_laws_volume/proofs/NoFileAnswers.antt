@@ -74,7 +74,7 @@ use Rattle.st_volume.specs.Volume as volume
 use Rattle.st_volume.specs.Volume.{Pending, Volume, is_ask, run}
 
 -- What open asks had noticed stays so within an event.
-abbrev AllOlds : List Step → Volume → Type 0
+abbrev pub AllOlds : List Step → Volume → Type 0
 AllOlds past u = (y : Step) → Has y past → AllOld y (Some u)
 
 old_step : (y : Step) (it : VolumeStep) (u : Volume) → AllOld y (Some u) → AllOld y (volume.step u it)
@@ -91,11 +91,11 @@ all_olds : (past : List Step) (o : Option Volume) → ((y : Step) → Has y past
 all_olds past None h = tt
 all_olds past (Some u) h = h
 
-olds_last : (past : List Step) → LastsInside (AllOlds past)
+pub olds_last : (past : List Step) → LastsInside (AllOlds past)
 olds_last past it u q h = all_olds past (volume.step u it) (λ y i. old_step y it u (h y i))
 
 -- A file that is asked for has an inode.
-has_inode : (s : ServerId) (ino : ℕ) (ask : Ask) → (same_server (cs.server_of ask) s && cs.is_file ino (cs.file_of ask)) ≡ true →
+pub has_inode : (s : ServerId) (ino : ℕ) (ask : Ask) → (same_server (cs.server_of ask) s && cs.is_file ino (cs.file_of ask)) ≡ true →
     ranges.is_ask ask ≡ true → nat_lt 0 ino ≡ true
 unfolding ranges.is_ask cs.meant
 has_inode s ino ask e r = by ask (and_true (same_server (cs.server_of ask) s) (cs.is_file ino (cs.file_of ask)) e).1 r
@@ -123,7 +123,7 @@ has_inode s ino ask e r = by ask (and_true (same_server (cs.server_of ask) s) (c
     by (asks.Name r (names.Rename dir name dir2 name2)) q h = cc q
     by (asks.Name r (names.List dir after)) q h = cc q
 
-olds_run : (past : List Step) (its : List VolumeStep) (u : Volume) → AllOlds past u → OnSome (AllOlds past) (run its u)
+pub olds_run : (past : List Step) (its : List VolumeStep) (u : Volume) → AllOlds past u → OnSome (AllOlds past) (run its u)
 olds_run past its u h =
     all_olds past (run its u)
     (λ y i. record {
@@ -159,20 +159,20 @@ module _ (k : net.Config) (count : ℕ) (past : List Step) (t : Traced) (e : Eve
   abbrev as_ : ClientId → List Ask
   as_ = asks_of past2
 
-  abbrev Goal : VolumeStep → Volume → Type 0
+  abbrev pub Goal : VolumeStep → Volume → Type 0
   Goal = IsNoFile past w
 
-  silent : OfAnswers Goal
+  pub silent : OfAnswers Goal
   silent (kinds.Answered c op answer) u q = cc
   silent i u q = tt
 
-  abbrev IsHere : Stepping w e sc → Volume → Given → Pending → Type 0
+  abbrev pub IsHere : Stepping w e sc → Volume → Given → Pending → Type 0
   IsHere = stepping.IsGiven k count past t e sc happened facts n right it v (AllOlds past2) (olds_last past2) Goal silent
 
-  abbrev asks_then : Stepping w e sc → List (ℕ × Ask)
+  abbrev pub asks_then : Stepping w e sc → List (ℕ × Ask)
   asks_then = start k count past t e sc happened facts n right it v (AllOlds past2) (olds_last past2) Goal silent
 
-  abbrev had : Stepping w e sc → List Association
+  abbrev pub had : Stepping w e sc → List Association
   had = before k count past t e sc happened facts n right it v (AllOlds past2) (olds_last past2) Goal silent
 
   -- One answer, and its ask.
@@ -186,37 +186,38 @@ module _ (k : net.Config) (count : ℕ) (past : List Step) (t : Traced) (e : Eve
     starts : asks_then r ≡ map key site.node.state.operations ++ coming r.input
     starts = start_is k count past t e sc happened facts n right it v (AllOlds past2) (olds_last past2) Goal silent r
 
-    words : (ask : Ask) → Has (g.op, ask) (asks_then r) → a.ask ≡ ask
+    pub words : (ask : Ask) → Has (g.op, ask) (asks_then r) → a.ask ≡ ask
     words ask i = some_is (sym h.asked ∙ (ap (λ d. numbered (as_ d) g.op) h.fits.0 ∙ h.all c (g.op, ask) i))
 
-    there : (is_ask g.client g.op a ≡ true) × Has a u.pending
+    pub there : (is_ask g.client g.op a ≡ true) × Has a u.pending
     there = found_at (is_ask g.client g.op) u.pending a h.found
 
     keys : ((a.client.0 == g.client.0) ≡ true) × ((a.op == g.op) ≡ true)
     keys = and_true (a.client.0 == g.client.0) (a.op == g.op) there.0
 
-    mine : a.client ≡ c
+    pub mine : a.client ≡ c
     mine = client_is a.client g.client keys.0 ∙ h.fits.0
 
     no_tree : (s : ServerId) → node_of w s ≡ None → volume.tree_of u s ≡ None
     no_tree s q = ap (λ xs. volume.numbered xs s.0) (h.trees ∙ agree) ∙ tree_none w.servers s.0 q
 
     -- no server
+    pub none_there : (z : IsUnknown w c (asks_then r) r.input (had r) g.op) → (node : ServerNode) → node_of w (cs.server_of z.ask) ≡ Some node → ⊥
+    none_there z node q =
+        clash (eq-eqb y.0.server.0 (cs.server_of z.ask).0 (ap (λ (s : ServerId). s.0) y.2)) (z.none y.0 y.1)
+      where
+        y : (b : Association) × Has b (had r) × (b.server ≡ world.server (cs.server_of z.ask).0)
+        y =
+            association_there k (cs.server_of z.ask).0 c.0 site w.ended
+            ((facts.changes_.names_.all.base.all.servers (cs.server_of z.ask).0 node q).ghosts c.0).net
+            ((facts.changes_.names_.all.base.all.servers (cs.server_of z.ask).0 node q).both.clients c.0 site r.at)
+
     unknown : IsUnknown w c (asks_then r) r.input (had r) g.op → IsMissing past w u a
     unknown z = record { undone = undone; missing = inl (go (node_of w (cs.server_of z.ask)) refl) }
       where
         go : (o : Option ServerNode) → node_of w (cs.server_of z.ask) ≡ o → volume.tree_of u (volume.server_of a.ask) ≡ None
         go None q = ap (volume.tree_of u) (ap volume.server_of (words z.ask z.known) ∙ server_words z.ask) ∙ no_tree (cs.server_of z.ask) q
-        go (Some node) q =
-            absurd
-            (clash
-            (eq-eqb y.0.server.0 (cs.server_of z.ask).0 (ap (λ (s : ServerId). s.0) y.2)) (z.none y.0 y.1))
-          where
-            y : (b : Association) × Has b (had r) × (b.server ≡ world.server (cs.server_of z.ask).0)
-            y =
-                association_there k (cs.server_of z.ask).0 c.0 site w.ended
-                ((facts.changes_.names_.all.base.all.servers (cs.server_of z.ask).0 node q).ghosts c.0).net
-                ((facts.changes_.names_.all.base.all.servers (cs.server_of z.ask).0 node q).both.clients c.0 site r.at)
+        go (Some node) q = absurd (none_there z node q)
 
     -- a refusal
     module _ (x m : ℕ) (f : IsRefusal w c (asks_then r) r.input (had r) g.op why.NoFile x m IsOfFile) where
@@ -237,23 +238,23 @@ module _ (k : net.Config) (count : ℕ) (past : List Step) (t : Traced) (e : Eve
       ask_is : a.ask ≡ f.ask
       ask_is = words f.ask f.known
 
-      file_is : volume.file_of a.ask ≡ record { server = s; ino = x }
+      pub file_is : volume.file_of a.ask ≡ record { server = s; ino = x }
       file_is = ap volume.file_of ask_is ∙ (file_words s f.concerns.0 f.ask parts.0 ∙ ap (λ j. record { server = s; ino = j }) x_is)
 
-      no_sync : volume.is_sync a.ask ≡ false
+      pub no_sync : volume.is_sync a.ask ≡ false
       no_sync = ap volume.is_sync ask_is ∙ (sync_words f.ask ∙ not_true (cs.is_sync f.ask) parts.1)
 
-      above : nat_lt 0 x ≡ true
+      pub above : nat_lt 0 x ≡ true
       above =
           subst (λ j. nat_lt 0 j ≡ true) x_is
           (has_inode s f.concerns.0 f.ask parts.0
           (numbered_in_range (as_ c) g.op f.ask (asks_in_range count c past2 ranges_) (h.all c (g.op, f.ask) f.known)))
 
-      which : of_file s x a.ask ≡ true
+      pub which : of_file s x a.ask ≡ true
       which = file_self (volume.file_of a.ask) (record { server = s; ino = x }) file_is
 
       -- it came before this event
-      low : a.op ≤ asks_before x' a.client
+      pub low : a.op ≤ asks_before x' a.client
       low = go (has_append (map key site.node.state.operations) (coming r.input) (g.op, f.ask) (subst (Has (g.op, f.ask)) starts f.known))
         where
           total : asks_before x' a.client ≡ site.asks
@@ -335,22 +336,22 @@ module _ (k : net.Config) (count : ℕ) (past : List Step) (t : Traced) (e : Eve
       by answer undone says = tt
 
 -- In every run.
-MissingToo : List Step → Step → Witness → Type 0
+pub MissingToo : List Step → Step → Witness → Type 0
 MissingToo past x it = OnSome (λ v. AtEachStep (IsNoFile past x.before.world) (steps_of it v x) v) it.volume
 
-record MissingHold (k : net.Config) (count : ℕ) (past : List Step) (t : Traced) (it : Witness) : Type 0 where
-  facts : FactsOf k count past t it
-  marks : MarksHold past t it
-  gone : GoneHold past t it
-  ranges_ : list_all (is_in_range count) past ≡ true
+pub record MissingHold (k : net.Config) (count : ℕ) (past : List Step) (t : Traced) (it : Witness) : Type 0 where
+  pub facts : FactsOf k count past t it
+  pub marks : MarksHold past t it
+  pub gone : GoneHold past t it
+  pub ranges_ : list_all (is_in_range count) past ≡ true
 
 -- of the volume, if there is one
-record AllToo (past past2 : List Step) (t : Traced) (v : Volume) : Type 0 where
-  all : AllOf past t v
-  trees : HasTreesOf t.world v
-  olds : AllOlds past2 v
+pub record AllToo (past past2 : List Step) (t : Traced) (v : Volume) : Type 0 where
+  pub all : AllOf past t v
+  pub trees : HasTreesOf t.world v
+  pub olds : AllOlds past2 v
 
-all_too : (k : net.Config) (count : ℕ) (past : List Step) (t : Traced) (e : Event) (sc : WorldTurn) (it : Witness) → MissingHold k count past t it →
+pub all_too : (k : net.Config) (count : ℕ) (past : List Step) (t : Traced) (e : Event) (sc : WorldTurn) (it : Witness) → MissingHold k count past t it →
     OnSome (AllToo past (past ++ step t e sc ∷ []) t) it.volume
 all_too k count past t e sc it h =
     go it.volume (all_of k count past t it h.facts) h.marks.trees_.agree (all_olds (past ++ step t e sc ∷ []) it.volume olds)
@@ -371,7 +372,7 @@ all_too k count past t e sc it h =
     go None p q y = tt
     go (Some v) p q y = record { all = p; trees = q; olds = y }
 
-missing_on : (k : net.Config) (count : ℕ) → IsGiven (Known count) (MissingHold k count) MissingToo
+pub missing_on : (k : net.Config) (count : ℕ) → IsGiven (Known count) (MissingHold k count) MissingToo
 unfolding MissingToo
 missing_on k count past t e sc it f g h = (
   on_more (AllToo past (past ++ step t e sc ∷ []) t) (λ v. AtEachStep (IsNoFile past t.world) (steps_of it v (step t e sc)) v)

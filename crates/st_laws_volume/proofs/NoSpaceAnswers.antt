@@ -21,7 +21,6 @@ use Words.Server.{ServerTurn, Stable}
 use Words.Tables.{and_true, found_at}
 use Words.Truth.{clash, client_is}
 use Words.World.{World, fresh_world, numbered}
-use Rattle.st_base.specs.declared.config.Config.{Config}
 use Rattle.st_protocol.specs.Assoc as net
 use Rattle.st_promises.specs.Safe.{EveryRunIsSafe}
 use Rattle.st_laws_pages.proofs.Asks.World.{asks_of}
@@ -46,23 +45,21 @@ use Rattle.st_laws_volume.proofs.NameReplies.{IsNamed, NameReplied, RemovesNot}
 use Rattle.st_laws_volume.proofs.OpenAnswers.{OfAnswers, open_left}
 use Rattle.st_laws_volume.proofs.Options.{on_all, on_more}
 use Rattle.st_laws_volume.proofs.PageRequests.{AllOne, AsksOne, IsOfOne, SessionAsksOne, fresh_one, one_step}
-use Rattle.st_laws_volume.proofs.RefusedRequests.{RefusedBy, refused_by}
+use Rattle.st_laws_volume.proofs.RefusedRequests.{IsUnder, RefusedBy, refused_under}
 use Rattle.st_laws_volume.proofs.SessionEpochs.{EpochsRight}
 use Rattle.st_laws_volume.proofs.StepAnswers as stepping
 use Rattle.st_laws_volume.proofs.StepAnswers.{Any, any_lasts, before, event_answered, start}
 use Rattle.st_laws_volume.proofs.TreeTurns.{thefts_stable}
-use Rattle.st_laws_volume.proofs.UnservedAsks as none
 use Rattle.st_volume.specs.declared.step.VolumeStep.{VolumeStep}
 use Rattle.st_volume.specs.declared.step.VolumeStep.TheVariants as kinds
 use Rattle.st_volume.specs.Pages.{place_of}
-use Rattle.st_volume.specs.Volume as volume
 use Rattle.st_volume.specs.Volume.{Pending, Volume, is_ask, run}
 
 -- A server that can't map one page: it has no free block.
-record Lacks (x : Extents) (left wanted : ℕ) : Type 0 where
-  none : left ≡ 0
-  one : wanted ≡ 1
-  full : extents.free x ≡ 0
+pub record Lacks (x : Extents) (left wanted : ℕ) : Type 0 where
+  pub none : left ≡ 0
+  pub one : wanted ≡ 1
+  pub full : extents.free x ≡ 0
 
 one_lacks : (x : Extents) (f : FileId) (p : PageNo) (left wanted : ℕ) → extents.allocate x f p 1 ≡ Err (wants.NoSpace left wanted) → Lacks x left wanted
 unfolding extents.allocate extents.allocate_pages extents.numbers
@@ -88,12 +85,12 @@ one_lacks x f p left wanted = go (not (extents.is_mapped x f p))
     go false q = by 0 (nat_le 0 (extents.free x)) refl (omega arith) (extents.place_pages f [] x) q
 
 -- Such a refusal of a request for one page.
-record LacksBlock (x : Extents) (b : Body) (left wanted : ℕ) : Type 0 where
-  ino : ℕ
-  g : GrantNo
-  page : PageNo
-  asks : b ≡ bodies.Allocate ino g page 1
-  lacks : Lacks x left wanted
+pub record LacksBlock (x : Extents) (b : Body) (left wanted : ℕ) : Type 0 where
+  pub ino : ℕ
+  pub g : GrantNo
+  pub page : PageNo
+  pub asks : b ≡ bodies.Allocate ino g page 1
+  pub lacks : Lacks x left wanted
 
 module _ (t : ServerTurn) (h : Header) (b : Body) (one : IsOfOne b) (left wanted : ℕ) where
   abbrev Says_so : Option Body → Type 0
@@ -160,11 +157,11 @@ module _ (k : net.Config) (count : ℕ) (past : List Step) (t : Traced) (e : Eve
   abbrev Goal : VolumeStep → Volume → Type 0
   Goal = IsNoSpace past
 
-  silent : OfAnswers Goal
+  pub silent : OfAnswers Goal
   silent (kinds.Answered c op answer) u q = cc
   silent i u q = tt
 
-  abbrev IsHere : Stepping w e sc → Volume → Given → Pending → Type 0
+  abbrev pub IsHere : Stepping w e sc → Volume → Given → Pending → Type 0
   IsHere = stepping.IsGiven k count past t e sc happened facts n right it v Any any_lasts Goal silent
 
   abbrev asks_then : Stepping w e sc → List (ℕ × Ask)
@@ -175,22 +172,26 @@ module _ (k : net.Config) (count : ℕ) (past : List Step) (t : Traced) (e : Eve
 
   module _ (r : Stepping w e sc) (u : Volume) (g : Given) (a : Pending) (h : IsHere r u g a) (undone : a.result ≡ None) (left wanted : ℕ)
       (f : IsRefusal w r.client (asks_then r) r.input (had r) g.op why.NoSpace left wanted IsOfPage) where
-    abbrev s : ServerId
+    abbrev pub s : ServerId
     s = f.association.server
 
-    z : RefusedBy past r.client s f.request.body (bodies.Nack why.NoSpace left wanted)
-    z =
-        refused_by k count past t facts r.client r.site r.at r.runs e r.input r.takes (asks_then r) g.op why.NoSpace left wanted refl IsOfPage f
+    abbrev pub under : (z : RefusedBy past r.client s f.request.body (bodies.Nack why.NoSpace left wanted))
+        × IsUnder k count past t facts r.client r.site r.at r.runs e r.input r.takes (asks_then r) g.op why.NoSpace left wanted refl IsOfPage f z
+    under =
+        refused_under k count past t facts r.client r.site r.at r.runs e r.input r.takes (asks_then r) g.op why.NoSpace left wanted refl IsOfPage f
+
+    abbrev pub z : RefusedBy past r.client s f.request.body (bodies.Nack why.NoSpace left wanted)
+    z = under.0
 
     single_body : IsOfOne z.served.sent.message.body
     single_body =
         subst IsOfOne (sym z.asks)
         (subst AsksOne f.outstanding (subst SessionAsksOne f.has (single r.client r.site r.at f.association f.among)))
 
-    abbrev turn : ServerTurn
+    abbrev pub turn : ServerTurn
     turn = behind_thefts z.y.before.world s z.served.serves.old.state
 
-    lacking : LacksBlock turn.state.stable.extents z.served.sent.message.body left wanted
+    pub lacking : LacksBlock turn.state.stable.extents z.served.sent.message.body left wanted
     lacking =
         lacks_block turn z.served.sent.message.header z.served.sent.message.body single_body left wanted
         (sv.rule turn (now_at z.y.before.world s) z.served.sent.message.header z.served.sent.message.body).reply
@@ -199,12 +200,12 @@ module _ (k : net.Config) (count : ℕ) (past : List Step) (t : Traced) (e : Eve
     ask_is : a.ask ≡ f.ask
     ask_is = some_is (sym h.asked ∙ (ap (λ d. numbered (asks_of (past ++ step t e sc ∷ []) d) g.op) h.fits.0 ∙ h.all r.client (g.op, f.ask) f.known))
 
-    mine : a.client ≡ r.client
+    pub mine : a.client ≡ r.client
     mine =
         client_is a.client g.client (and_true (a.client.0 == g.client.0) (a.op == g.op) (found_at (is_ask g.client g.op) u.pending a h.found).0).0
         ∙ h.fits.0
 
-    body_is : f.request.body ≡ bodies.Allocate lacking.ino lacking.g lacking.page 1
+    pub body_is : f.request.body ≡ bodies.Allocate lacking.ino lacking.g lacking.page 1
     body_is = sym z.asks ∙ lacking.asks
 
     ino_is : f.concerns.0 ≡ lacking.ino
@@ -213,12 +214,16 @@ module _ (k : net.Config) (count : ℕ) (past : List Step) (t : Traced) (e : Eve
     page_is : f.concerns.1 ≡ lacking.page
     page_is = some_is (sym f.concerns.3 ∙ ap cs.page_asked body_is)
 
-    place : place_of a.ask ≡ Some (record { server = s; ino = lacking.ino }, lacking.page)
+    pub place : place_of a.ask ≡ Some (record { server = s; ino = lacking.ino }, lacking.page)
     place =
         ap place_of ask_is
         ∙ its_place s lacking.ino lacking.page f.ask
         (subst (λ p. cs.changes_page s lacking.ino p f.ask ≡ true) page_is
         (subst (λ i. cs.changes_page s i f.concerns.1 f.ask ≡ true) ino_is f.concerns.4))
+
+    pub was_full : extents.free z.served.serves.old.state.stable.extents ≡ 0
+    was_full =
+        ap (λ (y : Stable). extents.free y.extents) (sym (thefts_stable z.served.serves.old.state (now_at z.y.before.world s))) ∙ lacking.lacks.full
 
     refused : IsRefusedBlock past a left wanted
     refused =
@@ -240,9 +245,7 @@ module _ (k : net.Config) (count : ℕ) (past : List Step) (t : Traced) (e : Eve
                 g = lacking.g;
                 served = z.served;
                 asks = lacking.asks;
-                full =
-                    ap (λ (y : Stable). extents.free y.extents) (sym (thefts_stable z.served.serves.old.state (now_at z.y.before.world s)))
-                    ∙ lacking.lacks.full;
+                full = was_full;
               });
         }
 

@@ -82,7 +82,7 @@ module _ (t : ServerTurn) (h : Header) (ino n : ℕ) where
   removes_unheld op _ (IsNamed reply) q = cc q
   removes_unheld op _ (RemovesNot dir name g i is l f k) q = subst (λ o. IsUnheld t h (bodies.Name o)) (sym is) (i, l, k)
 
-  lacks_lock : (b : Body) → cs.asks_cut_or_remove b ≡ true → (r : Option Body) → Answers t h b r → Says_so r → IsUnheld t h b
+  pub lacks_lock : (b : Body) → cs.asks_cut_or_remove b ≡ true → (r : Option Body) → Answers t h b r → Says_so r → IsUnheld t h b
   lacks_lock b a _ replied.IsSilent q = cc q
   lacks_lock b a _ (replied.IsDone r f) q = absurd (clash (ap is_refusal (some_is q)) f)
   lacks_lock b a _ (replied.IsNoFile i e f) q = cc q

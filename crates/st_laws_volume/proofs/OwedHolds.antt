@@ -126,7 +126,7 @@ fated_owners es (suc n) fate = go (slice_get es n) refl
     go None q = refl
     go (Some e) q = owners_set es n e fate q
 
-latest_on : (f : World) (d : ClientId) (n : ServerId) (ino : ℕ) (p : PageNo) → 1 ≤ d.0 → (xs : List Observation) (fs : List LogEntry) →
+pub latest_on : (f : World) (d : ClientId) (n : ServerId) (ino : ℕ) (p : PageNo) → 1 ≤ d.0 → (xs : List Observation) (fs : List LogEntry) →
     list_any (is_change_of d n ino p) xs ≡ false →
     latest (lines.log_told f fs xs) d (record { server = n; ino = ino }) p ≡ latest fs d (record { server = n; ino = ino }) p
 unfolding lines.log_told lines.log_behind log.accept log.patch log.cut
@@ -228,12 +228,12 @@ only_lost (kinds.Restarted s) q = refl
 only_lost (kinds.WriteFailed c number i) q = refl
 only_lost (kinds.ReadFailed c s number) q = refl
 
-silent_both : (xs ys : List VolumeStep) → list_all is_silent xs ≡ true → list_all is_silent ys ≡ true → list_all is_silent (xs ++ ys) ≡ true
+pub silent_both : (xs ys : List VolumeStep) → list_all is_silent xs ≡ true → list_all is_silent ys ≡ true → list_all is_silent (xs ++ ys) ≡ true
 silent_both [] ys p q = q
 silent_both (x ∷ xs) ys p q =
     let b = and_true (is_silent x) (list_all is_silent xs) p in and_both (is_silent x) (list_all is_silent (xs ++ ys)) b.0 (silent_both xs ys b.1 q)
 
-mute_silent : (w : World) (os : List Observation) → list_all is_mute os ≡ true → list_all is_silent (of_lines w os) ≡ true
+pub mute_silent : (w : World) (os : List Observation) → list_all is_mute os ≡ true → list_all is_silent (of_lines w os) ≡ true
 unfolding of_lines before_line of_line
 mute_silent w [] q = refl
 mute_silent w (o ∷ os) q =
@@ -333,7 +333,7 @@ module _ (past : List Step) (t : Traced) (e : Event) (sc : WorldTurn) (happened 
         where
           by : SiteNext w e sc d → (after : WorldClient) × (site_of sc.world d ≡ Some after)
           by (Stays q) = (row.site, q ∙ row.there)
-          by (Steps s2) = (s2.after, s2.left)
+          by (Steps s2 r2 q2) = (s2.after, s2.left)
           by (Crashes old q l stopped) = absurd (calm q)
           by (Starts old was stopped l) =
               absurd (clash row.runs (ap (λ (z : WorldClient). z.node.running) (some_is (sym row.there ∙ was)) ∙ stopped))
@@ -509,13 +509,13 @@ module _ (past : List Step) (t : Traced) (e : Event) (sc : WorldTurn) (happened 
         bad : true ≡ false → ⊥
         bad z = cc
 
-    silent : list_all tells_none sc.seen ≡ true
+    pub silent : list_all tells_none sc.seen ≡ true
     silent = ap (λ (z : WorldTurn). list_all tells_none z.seen) (step_happens w e sc happened).1 ∙ quiet.event_silent (ev.counted w) e calm
 
-    abbrev State : List Observation → List Observation → List LogEntry → Volume → Type 0
+    abbrev pub State : List Observation → List Observation → List LogEntry → Volume → Type 0
     State = owing.State past t e sc happened it held later v a right marked met wait whole r s
 
-    abbrev J : List Observation → List LogEntry → Volume → Type 0
+    abbrev pub J : List Observation → List LogEntry → Volume → Type 0
     J = owing.J past t e sc happened it held later v a right marked met wait whole r s
 
     -- at the start of the lines
@@ -717,15 +717,15 @@ module _ (past : List Step) (t : Traced) (e : Event) (sc : WorldTurn) (happened 
     abbrev Own0 : Volume → Type 0
     Own0 y = AllOwn w e v y × (LogKept ⊥ v y × failing.Marked0 past t e sc happened held.failures.stand whole v a carried y)
 
-    record Begun (y : Volume) : Type 0 where
-      state : State [] sc.seen w.log y
-      its : J [] w.log y
-      all : AllAsked w e (asks_of (past ++ x' ∷ []))
+    pub record Begun (y : Volume) : Type 0 where
+      pub state : State [] sc.seen w.log y
+      pub its : J [] w.log y
+      pub all : AllAsked w e (asks_of (past ++ x' ∷ []))
 
-    none : of_delivery it.behind v w e ≡ []
+    pub none : of_delivery it.behind v w e ≡ []
     none = none_served it.behind v w e c r.site r.input r.takes
 
-    abbrev first : Option Volume
+    abbrev pub first : Option Volume
     first = run (of_event w e) v
 
     all_asked : (y : Volume) → AreOf (asks_of (past ++ x' ∷ [])) y → AsksOn y → AllAsked w e (asks_of (past ++ x' ∷ []))
@@ -733,7 +733,7 @@ module _ (past : List Step) (t : Traced) (e : Event) (sc : WorldTurn) (happened 
         asked_there (asks_of (past ++ x' ∷ [])) y d k right_
         (subst (Has k) (ap (λ (i : AsksOf). i.pending) (sym (asks_ d ∙ ap (told_all d (of_event w e)) (agree d)))) h)
 
-    begun_on : OnSome Begun first
+    pub begun_on : OnSome Begun first
     begun_on =
         on_more (λ y. (State [] sc.seen w.log y × AsksOn y) × Own0 y) Begun
         (λ y k. record { state = k.0.0; its = begins y k.1.0 k.1.1.0 k.1.1.1; all = all_asked y k.0.0.asked k.0.1 }) first
@@ -800,18 +800,18 @@ Known past x =
     losses.Known past x
     × ((FatesHold x.after.world × PlacesHold x.after.world) × (HardFilesAreClean past x × (PagesAreOnce past x × LatePagesHaveFailed past x)))
 
-record AllOf (past : List Step) (t : Traced) (v : Volume) : Type 0 where
-  log_ : IsLogOf t.world.log v
-  asked : AreOf (asks_of past) v
-  marked : MarksOf t.world v
-  met : AreMet (owed past) (IsLate t.world) t.world.log v
-  wait : AllWait v
-  agree : HasAsksOf t.world v
-  carried_ : AreMarked past t.world v
-  over : AreOver t.world.ended t.world.log v.log
-  rows : RowsStand past t.world v
+pub record AllOf (past : List Step) (t : Traced) (v : Volume) : Type 0 where
+  pub log_ : IsLogOf t.world.log v
+  pub asked : AreOf (asks_of past) v
+  pub marked : MarksOf t.world v
+  pub met : AreMet (owed past) (IsLate t.world) t.world.log v
+  pub wait : AllWait v
+  pub agree : HasAsksOf t.world v
+  pub carried_ : AreMarked past t.world v
+  pub over : AreOver t.world.ended t.world.log v.log
+  pub rows : RowsStand past t.world v
 
-all_of : (past : List Step) (t : Traced) (it : Witness) → RowsHold past t it → OnSome (AllOf past t) it.volume
+pub all_of : (past : List Step) (t : Traced) (it : Witness) → RowsHold past t it → OnSome (AllOf past t) it.volume
 all_of past t it h =
     go it.volume h.met.failures.log h.met.right h.met.crashes.marked h.met.met h.wait h.asks.agree h.met.failures.carried h.over.over h.rows
   where
@@ -861,10 +861,10 @@ rows_given past t e sc it f g h = (
   },
 )
 
-rows_kept : IsKept Known RowsHold
+pub rows_kept : IsKept Known RowsHold
 rows_kept past t e sc it f g h = (rows_given past t e sc it f g h).1
 
-rows_begin : (k : Config) (clients servers disks blocks form : ℕ) →
+pub rows_begin : (k : Config) (clients servers disks blocks form : ℕ) →
     RowsHold [] (traced (fresh_world k clients servers disks blocks form))
     (begun (fresh_world k clients servers disks blocks form) (fresh_world k clients servers disks blocks form))
 unfolding begun fresh_world owed_from
@@ -884,7 +884,7 @@ rows_begin k clients servers disks blocks form =
           };
     }
 
-known_in : (k : Config) (clients servers disks blocks form : ℕ) (es : List Event) → IsHead k clients servers disks blocks form →
+pub known_in : (k : Config) (clients servers disks blocks form : ℕ) (es : List Event) → IsHead k clients servers disks blocks form →
     list_all (is_event (clients + servers)) es ≡ true → EveryRunIsSafe → InEveryRun PagesAfter →
     Throughout Known [] (steps es (traced (fresh_world k clients servers disks blocks form)))
 known_in k clients servers disks blocks form es head events safe pages =

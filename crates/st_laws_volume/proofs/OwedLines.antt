@@ -577,7 +577,7 @@ module _ (past : List Step) (t : Traced) (e : Event) (sc : WorldTurn) (happened 
           life = refl;
         })
 
-    not_gone : (b : Association) → Has b s.after.node.state.associations → (ino : ℕ) (p : PageNo) (n : ℕ) (k : LogEntry) → slice_get es n ≡ Some k →
+    pub not_gone : (b : Association) → Has b s.after.node.state.associations → (ino : ℕ) (p : PageNo) (n : ℕ) (k : LogEntry) → slice_get es n ≡ Some k →
         k.of ≡ owner_at_page c b ino p → lines.log_told sc.world w.log done ≡ es → list_all tells_none done ≡ true → log.counts k.fate ≡ false → ⊥
     not_gone b i ino p n k at own g m gone = by (stepped w e sc lives c s b i)
       where

@@ -67,7 +67,7 @@ module _ (t : World) (e : Event) (sc : WorldTurn) (lives : LivesHold t) (c : Cli
             runs_on = ap (λ (z : WorldClient). z.node.running) same ∙ runs;
             each = λ b i. (b, subst (λ (z : WorldClient). Has b z.node.state.associations) same i, (refl, omega arith));
           }
-      by (Steps s) =
+      by (Steps s r q) =
           let same : after ≡ s.after = some_is (sym left ∙ s.left) in
           let old : s.site ≡ site = some_is (sym s.there ∙ there) in
           record {

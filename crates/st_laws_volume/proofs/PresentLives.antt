@@ -123,6 +123,6 @@ module _ (t : World) (e : Event) (sc : WorldTurn) (lives : LivesHold t) where
               };
           starts = refl;
         }
-    present_before (Steps s) = by_step s
+    present_before (Steps s r q) = by_step s
     present_before (Crashes site q left stopped) = absurd (clash p.runs (ap (λ (z : WorldClient). z.node.running) (some_is (sym p.there ∙ left)) ∙ stopped))
     present_before (Starts old there stopped left) = by_start old there left

@@ -35,7 +35,7 @@ use Rattle.st_laws_volume.proofs.ClientAnswers.{Keeps, KeepsLosses, SessionIn, T
 use Rattle.st_laws_volume.proofs.ClientAnswers as walk
 
 -- No read is answered.
-abbrev IsRead : Output → Type 0
+abbrev pub IsRead : Output → Type 0
 IsRead y = (op : ℕ) × (bytes : List ℕ) × (y ≡ outputs.Answer op (answers.Read bytes))
 
 abbrev NoRead : List Output → Type 0
@@ -52,7 +52,7 @@ one_more out o f h y i = go (has_append out (o ∷ []) y i)
 abbrev IsOther : AppAnswer → Type 0
 IsOther a = (bytes : List ℕ) → a ≡ answers.Read bytes → ⊥
 
-says_other : (op : ℕ) (a : AppAnswer) → IsOther a → IsRead (outputs.Answer op a) → ⊥
+pub says_other : (op : ℕ) (a : AppAnswer) → IsOther a → IsRead (outputs.Answer op a) → ⊥
 says_other op a f (n, bytes, e) = f bytes (answer_is e)
   where
     answer_is : outputs.Answer op a ≡ outputs.Answer n (answers.Read bytes) → a ≡ answers.Read bytes
@@ -75,10 +75,10 @@ module _ (now : Stamp) where
   ended s o os t _ (losing.LostNothing f e q a l) h = one_more t.out _ (says_other o.op _ (λ b z. cc z)) h
   ended s o os t _ (losing.IsQuiesced e q a) h = one_more t.out _ (says_other o.op _ (λ b z. cc z)) h
 
-  no_note : (n : _) → IsRead (outputs.Note n) → ⊥
+  pub no_note : (n : _) → IsRead (outputs.Note n) → ⊥
   no_note n (op, bytes, e) = cc e
 
-  no_send : (m : _) → IsRead (outputs.Send m) → ⊥
+  pub no_send : (m : _) → IsRead (outputs.Send m) → ⊥
   no_send m (op, bytes, e) = cc e
 
   lost : (t : Turn) → NoRead t.out → NoRead (cl.lose now t).out
@@ -187,6 +187,12 @@ module _ (now : Stamp) where
       cond_either (λ (u : ClientTurn). NoRead u.out) (m.header.to == t.state.id.0) (at_each (cr.receive_at now m.header m.body) t) t
       (λ e. each_unread (cr.receive_at now m.header m.body) (λ u k. received m.header m.body u k) t h) (λ e. h)
   input_unread t (inputs.Done number r) h = each_unread (cl.finish number r) (λ u k. finished number r u k) t h
+
+  -- nothing is answered before the passes but for other answers
+  pub taken_unread : (s : ClientState) (i : ClientInput) → NoRead (cl.take_input (cl.losses (client_turn s []) now) now i).out
+  unfolding cl.losses
+  taken_unread s i =
+      input_unread (cl.losses (client_turn s []) now) i (each_unread (cl.lose now) (λ u h. lost u h) (client_turn s []) (λ y j. absurd j))
 
   -- The passes, of operations that are known.
   module _ (Known : ℕ → Ask → Type 0) where
@@ -449,21 +455,16 @@ module _ (now : Stamp) where
           failed = λ out t number x o i z y k u h. tt;
         }
 
-    pub reads_have_sessions : (s : ClientState) (input : ClientInput) → ((o : Operation) → Has o s.operations → Known o.op o.ask) → Tells Known Epochs input →
-        (op : ℕ) (bytes : List ℕ) → Has (outputs.Answer op (answers.Read bytes)) (cl.client_step s now input).out →
-        ReadAt (cl.client_step s now input).state.associations op
-    unfolding cl.client_step cl.work cl.losses at_each
-    reads_have_sessions s input k tells op bytes i =
-        (all_passed (cl.is_tick input) t.state.associations (with_associations [] t)
-        (record { known = λ o j. (known.operations o j).0; reads = λ n bs j. absurd (unread _ j (n, bs, refl)) })).reads op bytes i
+    -- the operations before the passes, and the outputs
+    pub known_taken : (s : ClientState) (input : ClientInput) → ((o : Operation) → Has o s.operations → Known o.op o.ask) → Tells Known Epochs input →
+        AllKnown (cl.take_input (cl.losses (client_turn s []) now) now input).state.operations
+    unfolding cl.losses
+    known_taken s input k tells = λ o j. (known.operations o j).0
       where
         first : ClientTurn
         first = cl.losses (client_turn s []) now
 
-        t : ClientTurn
-        t = cl.take_input first now input
-
-        known : walk.AllHold Known Free Cuts (λ a e. tt) Epochs There P now (λ a. SessionIn Epochs a.server a.session) t
+        known : walk.AllHold Known Free Cuts (λ a e. tt) Epochs There P now (λ a. SessionIn Epochs a.server a.session) (cl.take_input first now input)
         known =
             walk.input_taken Known Free Cuts (λ a e. tt) Epochs There P now input first (keeps input first) input refl tells
             (walk.lost_all Known Free Cuts (λ a e. tt) Epochs There P now keeps_losses (λ a. tt) s
@@ -473,5 +474,13 @@ module _ (now : Stamp) where
               each = λ a j. (any_session a.server a.session, tt);
             }))
 
-        unread : NoRead t.out
-        unread = input_unread first input (each_unread (cl.lose now) (λ u h. lost u h) (client_turn s []) (λ y j. absurd j))
+    pub reads_have_sessions : (s : ClientState) (input : ClientInput) → ((o : Operation) → Has o s.operations → Known o.op o.ask) → Tells Known Epochs input →
+        (op : ℕ) (bytes : List ℕ) → Has (outputs.Answer op (answers.Read bytes)) (cl.client_step s now input).out →
+        ReadAt (cl.client_step s now input).state.associations op
+    unfolding cl.client_step cl.work at_each
+    reads_have_sessions s input k tells op bytes i =
+        (all_passed (cl.is_tick input) t.state.associations (with_associations [] t)
+        (record { known = known_taken s input k tells; reads = λ n bs j. absurd (taken_unread s input _ j (n, bs, refl)) })).reads op bytes i
+      where
+        t : ClientTurn
+        t = cl.take_input (cl.losses (client_turn s []) now) now input

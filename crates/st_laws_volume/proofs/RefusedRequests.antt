@@ -92,25 +92,31 @@ module _ (k : net.Config) (count : ℕ) (past : List Step) (t : Traced) (facts :
   final : is_final r.message.body ≡ true
   final = ap is_final r.says ∙ kept
 
-  pub refused_by : RefusedBy past c s r.request.body (bodies.Nack w x n)
-  refused_by = go (facts.replies.replies r.message comes.among s r.from final)
+  -- the request was served under its key
+  abbrev pub IsUnder : RefusedBy past c s r.request.body (bodies.Nack w x n) → Type 0
+  IsUnder z = (z.life_ ≡ r.association.life.0) × ((z.epoch_ ≡ r.session.epoch.0) × (z.number_ ≡ r.request.number))
+
+  pub refused_under : (z : RefusedBy past c s r.request.body (bodies.Nack w x n)) × IsUnder z
+  refused_under = go (facts.replies.replies r.message comes.among s r.from final)
     where
       go : HasEvent past t.world (client r.message.header.to) s r.message.header.life r.message.header.epoch r.message.header.number r.message.body →
-          RefusedBy past c s r.request.body (bodies.Nack w x n)
-      go (inl (y, i, a)) =
-          record {
-            y = y;
-            among = i;
-            life_ = r.message.header.life;
-            epoch_ = r.message.header.epoch;
-            number_ = r.message.header.number;
-            served = b;
-            asks =
-                body_is b.sent.message
-                (facts.changes_.names_.all.base.cuts.grown y i b.sent.message
-                (has_map_in message_in y.before.world.net.messages b.sent (numbered_has y.before.world.net.messages b.index b.sent b.is)))
-                b.serves.keyed;
-          }
+          (z : RefusedBy past c s r.request.body (bodies.Nack w x n)) × IsUnder z
+      go (inl (y, i, a)) = (
+        record {
+          y = y;
+          among = i;
+          life_ = r.message.header.life;
+          epoch_ = r.message.header.epoch;
+          number_ = r.message.header.number;
+          served = b;
+          asks =
+              body_is b.sent.message
+              (facts.changes_.names_.all.base.cuts.grown y i b.sent.message
+              (has_map_in message_in y.before.world.net.messages b.sent (numbered_has y.before.world.net.messages b.index b.sent b.is)))
+              b.serves.keyed;
+        },
+        (r.life, (r.epoch, r.number)),
+      )
         where
           b : ServedAt y c s r.message.header.life r.message.header.epoch r.message.header.number (bodies.Nack w x n)
           b =
@@ -123,6 +129,9 @@ module _ (k : net.Config) (count : ℕ) (past : List Step) (t : Traced) (facts :
           (sym
           (body_is z.by z.among
           (subst (λ (d : ClientId). Keyed d s r.message.header.life r.message.header.epoch r.message.header.number z.by) comes.to z.keyed))) ∙ z.asks) r.first)
+
+  pub refused_by : RefusedBy past c s r.request.body (bodies.Nack w x n)
+  refused_by = refused_under.0
 
 -- The file of a request.
 file_same : (cutting : Option ℕ) (b : Body) (ino : ℕ) → file_in b ≡ Some ino → cs.file_asked cutting b ≡ Some ino

@@ -176,7 +176,7 @@ kept_stuck t =
     one o j true e = record { o = o; there = j; op = refl; ask = refl; asked = λ q. absurd (no q); sent = sym (was o e) }
     one o j false e = same_one t.operations o j
 
-abbrev Kept : Turn → Turn → Type 0
+abbrev pub Kept : Turn → Turn → Type 0
 Kept t u = KeptIn t.operations u.operations
 
 kept_answers : (t : Turn) (picked : Operation → Bool) (a : AppAnswer) → Kept t (cs.answer_each picked a t)
@@ -225,10 +225,10 @@ heard now h t _ u (trace.IsAnswered b s q v _ r x f) =
     subst (λ os. KeptIn os u.operations) (renewed t s (trace.stamp_of h) v x)
     (has_effect now (cs.with_session (cr.ended_by (trace.stamp_of h) s) v) (cr.ended_by (trace.stamp_of h) s) (cs.file_asked s.cutting q.body) q.body b u f)
 
-received : (now : Stamp) (h : Header) (b : Body) (t : Turn) → Kept t (cr.receive_at now h b t)
+pub received : (now : Stamp) (h : Header) (b : Body) (t : Turn) → Kept t (cr.receive_at now h b t)
 received now h b t = heard now h t b (cr.receive_at now h b t) (receives now h t b)
 
-finished : (number : ℕ) (r : Option (Option (Tag × List ℕ))) (t : Turn) → Kept t (cl.finish number r t)
+pub finished : (number : ℕ) (r : Option (Option (Tag × List ℕ))) (t : Turn) → Kept t (cl.finish number r t)
 finished number r t = go (cl.finish number r t) (finishes number r t)
   where
     go : (u : Turn) → Finishes number r t u → Kept t u
@@ -345,7 +345,7 @@ ended start s o os t _ (losing.IsToldLost f e q a l) h = gone_on start o os t _ 
 ended start s o os t _ (losing.LostNothing f e q a l) h = gone_on start o os t _ refl h
 ended start s o os t _ (losing.IsQuiesced e q a) h = gone_on start o os t _ refl h
 
-lost : (now : Stamp) (t : Turn) → Kept t (cl.lose now t)
+pub lost : (now : Stamp) (t : Turn) → Kept t (cl.lose now t)
 lost now t = go (cl.lose now t) (loses now t)
   where
     go : (u : Turn) → Loses now t u → Kept t u

@@ -21,7 +21,7 @@ use Words.Lookups.{some_is}
 use Words.Lengths.{numbered_there}
 use Words.Members.{has_left, has_right}
 use Words.Numbers.{numbered_has}
-use Words.Safety.{Promise, Step, step, steps}
+use Words.Safety.{IsHead, Promise, Step, step, steps}
 use Words.Server as sv
 use Words.Server.{ServerNode}
 use Words.Tables.{and_both, and_true, has_append, has_map_in}
@@ -57,7 +57,7 @@ use Rattle.st_laws_names.proofs.World.{Asked, Worlds, waits_at}
 use Rattle.st_laws_volume.specs.Logs.{InEveryRun}
 use Rattle.st_laws_volume.specs.Requests.{AtNode, IsForAsk, OfDelivery, OfMessage, RequestsAreForTheirAsks}
 use Rattle.st_laws_volume.specs.Witness.{Behind, Witness, begun, does_at, is_name_for, is_request_for, now_at, same_text, serves, turn_of, is_done_as}
-use Rattle.st_laws_volume.proofs.Carried.{IsGiven, given_in}
+use Rattle.st_laws_volume.proofs.Carried.{IsGiven, IsKept, given_in}
 use Rattle.st_laws_volume.proofs.ReadPages.{InRange, all_in_range, throughout_both}
 use Rattle.st_laws_volume.proofs.RemoveGrants.{From, IsUnder, IsUnderAt, IsUnderIn, JustSent, WaitedAt, step_waits}
 use Rattle.st_laws_volume.proofs.RemoveGrants as sending
@@ -176,17 +176,17 @@ module _ (past : List Step) (t : Traced) (e : Event) (sc : WorldTurn) (owed : Re
       e sc owed happens
 
 -- What is carried: each message under the key of an operation names a grant if it must.
-abbrev AllNamed : List Step → World → Type 0
+abbrev pub AllNamed : List Step → World → Type 0
 AllNamed past w =
     (c : ClientId) (op : ℕ) (a : Asked past w c op) (m : Message) → Has m (messages w) → Keyed c a.server a.life_ a.epoch_ a.number_ m → (ask : Ask) →
     numbered (asks_of past c) op ≡ Some ask → NamesGrant ask m.body
 
-record GrantsHold (k : net.Config) (count : ℕ) (past : List Step) (t : Traced) (it : Witness) : Type 0 where
-  facts : FactsHold k count past t
-  ghost_ : GhostHolds past t it
-  places : PlacesHold t.world
-  stand : Stand past t
-  named_ : AllNamed past t.world
+pub record GrantsHold (k : net.Config) (count : ℕ) (past : List Step) (t : Traced) (it : Witness) : Type 0 where
+  pub facts : FactsHold k count past t
+  pub ghost_ : GhostHolds past t it
+  pub places : PlacesHold t.world
+  pub stand : Stand past t
+  pub named_ : AllNamed past t.world
 
 module _ (k : net.Config) (count : ℕ) (past : List Step) (t : Traced) (e : Event) (sc : WorldTurn) (h : FactsHold k count past t)
     (n : FactsHold k count (past ++ step t e sc ∷ []) (traced_after e t sc)) (stand : Stand (past ++ step t e sc ∷ []) (traced_after e t sc))
@@ -485,7 +485,7 @@ module _ (k : net.Config) (count : ℕ) (past : List Step) (t : Traced) (it : Wi
   at_delivery e = tt
 
 -- In every run.
-abbrev Known : ℕ → Promise
+abbrev pub Known : ℕ → Promise
 Known n past x = InRange n past x × (FatesHold x.after.world × (KeysHaveOneOperation past x × (ReassertionsNew past x × PlacesAfter past x)))
 
 GrantsToo : List Step → Step → Witness → Type 0
@@ -508,9 +508,25 @@ grants_on k count past t e sc it f g h =
       },
     )
 
+pub grants_kept : (k : net.Config) (count : ℕ) → IsKept (Known count) (GrantsHold k count)
+grants_kept k count past t e sc it f g h = (grants_on k count past t e sc it f g h).1
+
 none_named : (k : Config) (clients servers disks blocks form : ℕ) → AllNamed [] (fresh_world k clients servers disks blocks form)
 unfolding fresh_world
 none_named k clients servers disks blocks form c op a m i key ask asked = absurd i
+
+pub grants_begin : (k : Config) (clients servers disks blocks form : ℕ) → IsHead k clients servers disks blocks form →
+    GrantsHold (terms_of k) (clients + servers) [] (traced (fresh_world k clients servers disks blocks form))
+    (begun (fresh_world k clients servers disks blocks form) (fresh_world k clients servers disks blocks form))
+unfolding begun
+grants_begin k clients servers disks blocks form head =
+    record {
+      facts = facts_begin k clients servers disks blocks form head;
+      ghost_ = ghost_begins k clients servers disks blocks form;
+      places = fresh_places k clients servers disks blocks form;
+      stand = fresh_stand k clients servers disks blocks form;
+      named_ = none_named k clients servers disks blocks form;
+    }
 
 pub requests_are_for_their_asks : InEveryRun RequestsAreForTheirAsks
 unfolding GrantsToo begun
@@ -518,13 +534,7 @@ requests_are_for_their_asks k clients servers disks blocks form es head events =
     let t : Traced = traced (fresh_world k clients servers disks blocks form) in
     let n : ℕ = clients + servers in
     given_in (Known n) (GrantsHold (terms_of k) n) GrantsToo (grants_on (terms_of k) n) es t
-    (record {
-      facts = facts_begin k clients servers disks blocks form head;
-      ghost_ = ghost_begins k clients servers disks blocks form;
-      places = fresh_places k clients servers disks blocks form;
-      stand = fresh_stand k clients servers disks blocks form;
-      named_ = none_named k clients servers disks blocks form;
-    })
+    (grants_begin k clients servers disks blocks form head)
     (throughout_both (InRange n)
     (λ past x. FatesHold x.after.world × (KeysHaveOneOperation past x × (ReassertionsNew past x × PlacesAfter past x))) [] (steps es t)
     (all_in_range n es [] t events)

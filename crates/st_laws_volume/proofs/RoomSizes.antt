@@ -21,7 +21,8 @@ use Rattle.st_lemmas.proofs.Steps.{step_happens}
 use Rattle.st_trace.proofs.Server.Growth.{step_grows}
 use Rattle.st_laws_volume.specs.Options.{OnSome}
 use Rattle.st_laws_volume.specs.TreeNames.{IsSound}
-use Rattle.st_laws_volume.specs.Witness.{Witness, begun, if_told, is_disk_of, led_by, size_of, steps_of, volume_after}
+use Rattle.st_laws_volume.specs.VolumeRuns.{is_disk_of, size_of}
+use Rattle.st_laws_volume.specs.Witness.{Witness, begun, if_told, led_by, steps_of, volume_after}
 use Rattle.st_laws_volume.proofs.Carried.{IsKept}
 use Rattle.st_laws_volume.proofs.LogLines.{numbered_suc, suc_is}
 use Rattle.st_laws_volume.proofs.Options.{on_if, on_more, on_then}

@@ -154,7 +154,7 @@ module _ (os : List Operation) (s : ServerId) (alone : OneWaits s os) (stay : St
               at : (g : Stage) → j.stage ≡ g → cs.is_sent_at g ≡ true → ⊥
               at stages.Sent f w =
                   let n = alone j p i there (and_both (cs.is_of s j) (cs.is_asked_at j.stage) of (ap cs.is_asked_at f)) asked in absurd (omega (arith, n, l))
-              at stages.Stuck f w = stay j i f none
+              at stages.Stuck f w = stay j i f
               at stages.Unsent f w = cc w
 
               no : (cs.is_sent j ≡ true) ⊎ (is_some (cs.file_of j.ask) ≡ true) → ⊥

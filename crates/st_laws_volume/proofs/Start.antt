@@ -10,7 +10,8 @@ use Rattle.st_rules.specs.Server.{fresh_server}
 use Rattle.st_rules.specs.World.{fresh_site, fresh_world, node_at_start, server}
 use Rattle.st_lemmas.proofs.Tables.{and_both}
 use Rattle.st_laws_volume.specs.Laws.{TheStartAgrees}
-use Rattle.st_laws_volume.specs.Witness.{are_entries, are_operations, are_trees, begun, is_log, is_pending, is_tree, size_of}
+use Rattle.st_laws_volume.specs.VolumeRuns.{size_of}
+use Rattle.st_laws_volume.specs.Witness.{are_entries, are_operations, are_trees, begun, is_log, is_pending, is_tree}
 use Rattle.st_volume.specs.Trees.{fresh_tree}
 use Rattle.st_volume.specs.Volume.{fresh_volume}
 

@@ -1,6 +1,8 @@
--- No operation for a name that needs no file is stuck: a server refuses such a request only if it should remove, and then the client answers the operation.
+-- No operation is stuck. A server refuses a request for a name only if it should remove a file that
+-- its client doesn't hold, and one for a cut only if the client doesn't hold the file or there is no
+-- file. Then the client answers the operation.
 use Rattle.st_lemmas.proofs.Words
-use Words.{◌≡◌, ◌⊎◌, ℕ, ◌+◌, Bool, true, false, not, ◌==◌, List, [], ◌∷◌, ◌++◌, Option, Some, None, Ok, Err, refl, sym, ap, ◌∙◌, subst, inl, inr, if◌then◌else◌}
+use Words.{◌≡◌, ◌⊎◌, ℕ, ◌+◌, Bool, true, false, not, ◌&&◌, ◌==◌, List, [], ◌∷◌, ◌++◌, Option, Some, None, Ok, Err, refl, sym, ap, ◌∙◌, subst, inl, inr, if◌then◌else◌}
 use Words.{eqb-true, filter, AppAnswer, Ask, Body, ClientId, ClientInput, EntryRefusal, GrantNo, Header, Message, NameOp, NameRow, Operation, PageNo, Result, Stamp, Tag, Why}
 use Words.answers
 use Words.bodies
@@ -95,13 +97,9 @@ names_refused t now h (Rename dir x dir2 x2) = changed_so (Rename dir x dir2 x2)
 names_refused t now h (ListFrom dir after) = listed_so (ListFrom dir after) t _
 
 -- A client that is told so leaves no operation stuck.
-module _ (now : Stamp) (h : Header) (a b : ℕ) (t : Turn)
-    (removes : (s : ClientSession) (q : Request) → t.here.session ≡ Some s → s.requests.asked ≡ Some q → cs.asks_cut_or_remove q.body ≡ true) where
+module _ (now : Stamp) (h : Header) (a b : ℕ) (t : Turn) where
   abbrev WasThere : Turn → Type 0
   WasThere u = (o : Operation) → Has o u.operations → Has o t.operations
-
-  abbrev body : Body
-  body = bodies.Nack why.NotHolder a b
 
   noted : (s : ClientSession) (stamp : Stamp) → ((cr.note_renewal t s stamp).operations ≡ t.operations) ×
       ((cr.note_renewal t s stamp).here.server ≡ t.here.server)
@@ -114,40 +112,96 @@ module _ (now : Stamp) (h : Header) (a b : ℕ) (t : Turn)
   unfolding cr.end_request
   ended_there s stamp = (noted s stamp).0
 
-  left_there : (u : Turn) → u.operations ≡ t.operations → WasThere (cr.leave_stuck (cs.answer_each (cs.is_asked u.here.server) answers.NotHolder u))
+  ended_server : (s : ClientSession) (stamp : Stamp) → (cr.end_request t s stamp).here.server ≡ t.here.server
+  unfolding cr.end_request
+  ended_server s stamp = (noted s stamp).1
+
+  -- all operations that asked are answered
+  left_there : (u : Turn) → u.operations ≡ t.operations → (picked : Operation → Bool) (answer : AppAnswer) →
+      ((o : Operation) → Has o u.operations → cs.is_asked u.here.server o ≡ true → picked o ≡ true) → WasThere (cr.leave_stuck (cs.answer_each picked answer u))
   unfolding cr.leave_stuck cs.answer_each
-  left_there u e o i = go (has_map (cr.stuck u) (filter (λ p. not (cs.is_asked u.here.server p)) u.operations) o i)
+  left_there u e picked answer all o i = go (has_map (cr.stuck u) (filter (λ p. not (picked p)) u.operations) o i)
     where
-      go : (p : Operation) × Has p (filter (λ p. not (cs.is_asked u.here.server p)) u.operations) × (o ≡ cr.stuck u p) → Has o t.operations
+      go : (p : Operation) × Has p (filter (λ p. not (picked p)) u.operations) × (o ≡ cr.stuck u p) → Has o t.operations
       go (p, j, q) =
-          let f = has_filter (λ p. not (cs.is_asked u.here.server p)) u.operations p j in
-          subst (λ (y : Operation). Has y t.operations) (sym (q ∙ same p f.1)) (subst (Has p) e f.0)
+          let f = has_filter (λ p. not (picked p)) u.operations p j in
+          subst (λ (y : Operation). Has y t.operations) (sym (q ∙ same p f.0 (not_true (picked p) f.1))) (subst (Has p) e f.0)
         where
-          same : (p : Operation) → not (cs.is_asked u.here.server p) ≡ true → cr.stuck u p ≡ p
-          same p r = ap (λ b. if b then cs.at_stage stages.Stuck p else p) (not_true (cs.is_asked u.here.server p) r)
+          same : (p : Operation) → Has p u.operations → picked p ≡ false → cr.stuck u p ≡ p
+          same p i r = pick (cs.is_asked u.here.server p) refl
+            where
+              pick : (b : Bool) → cs.is_asked u.here.server p ≡ b → cr.stuck u p ≡ p
+              pick true w = clash (all p i w) r
+              pick false w = ap (λ b. if b then cs.at_stage stages.Stuck p else p) w
 
-  replied : (s : ClientSession) (q : Request) (stamp : Stamp) → cs.asks_cut_or_remove q.body ≡ true → WasThere (cr.reply_to t s now stamp body q.body)
-  unfolding cr.reply_to cr.effect cr.refused cr.refuse_as cr.refuse_holder
-  replied s q stamp r =
-      cond_either (λ u. WasThere (cr.leave_stuck u)) (cs.asks_cut_or_remove q.body) _ _ (λ e. left_there (cr.end_request t s stamp) (ended_there s stamp))
-      (λ e. clash r e)
+  -- the client doesn't hold the file
+  module _ (removes : (s : ClientSession) (q : Request) → t.here.session ≡ Some s → s.requests.asked ≡ Some q → cs.asks_cut_or_remove q.body ≡ true) where
+    abbrev unheld : Body
+    unheld = bodies.Nack why.NotHolder a b
 
-  counted : (s : ClientSession) → t.here.session ≡ Some s → (o : Option Request) → s.requests.asked ≡ o → (stamp : Stamp) →
-      WasThere (cr.counted t s now h.number stamp body o)
-  unfolding cr.counted cr.by_request cr.count_reply cr.condemn
-  counted s e None f stamp = λ o i. i
-  counted s e (Some q) f stamp =
-      cond_either WasThere (cr.is_counting h.number body q) _ t
-      (λ c. cond_either WasThere (cr.refuses_reassertion body q.body) _ _ (λ d. λ o i. i) (λ d. replied s q stamp (removes s q e f))) (λ c. λ o i. i)
+    holder_replied : (s : ClientSession) (q : Request) (stamp : Stamp) → cs.asks_cut_or_remove q.body ≡ true →
+        WasThere (cr.reply_to t s now stamp unheld q.body)
+    unfolding cr.reply_to cr.effect cr.refused cr.refuse_as cr.refuse_holder
+    holder_replied s q stamp r =
+        cond_either (λ u. WasThere (cr.leave_stuck u)) (cs.asks_cut_or_remove q.body) _ _
+        (λ e. left_there (cr.end_request t s stamp) (ended_there s stamp) (cs.is_asked (cr.end_request t s stamp).here.server) answers.NotHolder (λ o i w. w))
+        (λ e. clash r e)
 
-  pub holder_left : WasThere (cr.receive_at now h body t)
-  unfolding cr.receive_at cr.by_session cr.with_a_session cr.of_epoch cr.of_other_epoch cr.reply_of cr.without_session
-  holder_left = cond_either WasThere (cr.is_received t now h) _ t (λ r. by t.here.session refl) (λ r. λ o i. i)
-    where
-      by : (x : Option ClientSession) → t.here.session ≡ x → WasThere (cr.by_session t now h body x)
-      by None e = λ o i. i
-      by (Some s) e =
-          cond_either WasThere (h.epoch == s.epoch.0) _ _ (λ q. counted s e s.requests.asked refl (record { 0 = h.stamp })) (λ q. λ o i. i)
+    holder_counted : (s : ClientSession) → t.here.session ≡ Some s → (o : Option Request) → s.requests.asked ≡ o → (stamp : Stamp) →
+        WasThere (cr.counted t s now h.number stamp unheld o)
+    unfolding cr.counted cr.by_request cr.count_reply cr.condemn
+    holder_counted s e None f stamp = λ o i. i
+    holder_counted s e (Some q) f stamp =
+        cond_either WasThere (cr.is_counting h.number unheld q) _ t
+        (λ c. cond_either WasThere (cr.refuses_reassertion unheld q.body) _ _ (λ d. λ o i. i) (λ d. holder_replied s q stamp (removes s q e f)))
+        (λ c. λ o i. i)
+
+    pub holder_left : WasThere (cr.receive_at now h unheld t)
+    unfolding cr.receive_at cr.by_session cr.with_a_session cr.of_epoch cr.of_other_epoch cr.reply_of cr.without_session
+    holder_left = cond_either WasThere (cr.is_received t now h) _ t (λ r. by t.here.session refl) (λ r. λ o i. i)
+      where
+        by : (x : Option ClientSession) → t.here.session ≡ x → WasThere (cr.by_session t now h unheld x)
+        by None e = λ o i. i
+        by (Some s) e =
+            cond_either WasThere (h.epoch == s.epoch.0) _ _ (λ q. holder_counted s e s.requests.asked refl (record { 0 = h.stamp })) (λ q. λ o i. i)
+
+  -- there is no file
+  module _ (ino : ℕ)
+      (files : (s : ClientSession) (q : Request) → t.here.session ≡ Some s → s.requests.asked ≡ Some q → cs.file_asked s.cutting q.body ≡ Some ino)
+      (all : (o : Operation) → Has o t.operations → cs.is_asked t.here.server o ≡ true → cr.works_on t ino o ≡ true) where
+    abbrev lacking : Body
+    lacking = bodies.Nack why.NoFile a b
+
+    file_replied : (s : ClientSession) (q : Request) (stamp : Stamp) → cs.file_asked s.cutting q.body ≡ Some ino →
+        WasThere (cr.reply_to t s now stamp lacking q.body)
+    unfolding cr.reply_to cr.effect cr.refused cr.refuse_as cr.refuse_file
+    file_replied s q stamp r =
+        subst (λ o. WasThere (cr.leave_stuck (cr.refuse_file (cr.end_request t s stamp) answers.NoFile o))) (sym r)
+        (left_there (cr.end_request t s stamp) (ended_there s stamp) (cr.works_on (cr.end_request t s stamp) ino) answers.NoFile own)
+      where
+        own : (o : Operation) → Has o (cr.end_request t s stamp).operations → cs.is_asked (cr.end_request t s stamp).here.server o ≡ true →
+            cr.works_on (cr.end_request t s stamp) ino o ≡ true
+        own o i w =
+            subst (λ v. (cs.is_on v ino o && not (cs.is_sync o.ask)) ≡ true) (sym (ended_server s stamp))
+            (all o (subst (Has o) (ended_there s stamp) i) (subst (λ v. cs.is_asked v o ≡ true) (ended_server s stamp) w))
+
+    file_counted : (s : ClientSession) → t.here.session ≡ Some s → (o : Option Request) → s.requests.asked ≡ o → (stamp : Stamp) →
+        WasThere (cr.counted t s now h.number stamp lacking o)
+    unfolding cr.counted cr.by_request cr.count_reply cr.condemn
+    file_counted s e None f stamp = λ o i. i
+    file_counted s e (Some q) f stamp =
+        cond_either WasThere (cr.is_counting h.number lacking q) _ t
+        (λ c. cond_either WasThere (cr.refuses_reassertion lacking q.body) _ _ (λ d. λ o i. i) (λ d. file_replied s q stamp (files s q e f)))
+        (λ c. λ o i. i)
+
+    pub file_left : WasThere (cr.receive_at now h lacking t)
+    unfolding cr.receive_at cr.by_session cr.with_a_session cr.of_epoch cr.of_other_epoch cr.reply_of cr.without_session
+    file_left = cond_either WasThere (cr.is_received t now h) _ t (λ r. by t.here.session refl) (λ r. λ o i. i)
+      where
+        by : (x : Option ClientSession) → t.here.session ≡ x → WasThere (cr.by_session t now h lacking x)
+        by None e = λ o i. i
+        by (Some s) e =
+            cond_either WasThere (h.epoch == s.epoch.0) _ _ (λ q. file_counted s e s.requests.asked refl (record { 0 = h.stamp })) (λ q. λ o i. i)
 
 -- What becomes of the operations at a message: each was there, or is stuck now, as its request was refused.
 module _ (now : Stamp) (head : Header) where
@@ -250,19 +304,25 @@ module _ (now : Stamp) (head : Header) where
 
 -- A step of a client.
 abbrev pub Stays : List Operation → Type 0
-Stays os = (o : Operation) → Has o os → o.stage ≡ stages.Stuck → cs.file_of o.ask ≡ None → ⊥
+Stays os = (o : Operation) → Has o os → o.stage ≡ stages.Stuck → ⊥
+
+-- A refusal of the request of an operation, by which the client answers it.
+abbrev pub IsTold : Turn → Operation → ClientSession → Request → Why → Type 0
+IsTold t o x q w =
+    ((w ≡ why.NotHolder) × (cs.asks_cut_or_remove q.body ≡ true))
+    ⊎ ((w ≡ why.NoFile) × ((ino : ℕ) × (cs.file_asked x.cutting q.body ≡ Some ino) × (cr.works_on t ino o ≡ true)))
 
 module _ (s : ClientState) (now : Stamp) (input : ClientInput) where
   -- an association before the input
   abbrev pub Place : Association → Type 0
   Place a = (a.session ≡ None) ⊎ Has a s.associations
 
-  -- what is known of a reply to the request of an operation that needs no file
+  -- what is known of a refusal of the request of an operation
   pub record Knows : Type 0 where
     pub tells :
         (m : Message) → input ≡ inputs.Control m → m.header.to ≡ s.id.0 → (t : Turn) → Place t.here → (o : Operation) → Has o s.operations →
-        cs.is_asked t.here.server o ≡ true → cs.file_of o.ask ≡ None → (x : ClientSession) (q : Request) → trace.Replied now m.header m.body t x q →
-        (w : Why) (a b : ℕ) → m.body ≡ bodies.Nack w a b → (w ≡ why.NotHolder) × (cs.asks_cut_or_remove q.body ≡ true)
+        cs.is_asked t.here.server o ≡ true → (x : ClientSession) (q : Request) → trace.Replied now m.header m.body t x q →
+        (w : Why) (a b : ℕ) → m.body ≡ bodies.Nack w a b → IsTold t o x q w
 
   module _ (knows : Knows) where
     record Fine (os : List Operation) : Type 0 where
@@ -272,7 +332,7 @@ module _ (s : ClientState) (now : Stamp) (input : ClientInput) where
     fewer : (os ps : List Operation) → ((p : Operation) → Has p ps → Has p os) → Fine os → Fine ps
     fewer os ps f h = record { stays = λ o i. h.stays o (f o i); orig = λ o i. h.orig o (f o i) }
 
-    one_more : (os : List Operation) (o : Operation) → (o.stage ≡ stages.Stuck → cs.file_of o.ask ≡ None → ⊥) →
+    one_more : (os : List Operation) (o : Operation) → (o.stage ≡ stages.Stuck → ⊥) →
         (cs.is_asked_at o.stage ≡ true → Has o s.operations) → Fine os → Fine (os ++ o ∷ [])
     one_more os o f g h =
         record {
@@ -280,9 +340,9 @@ module _ (s : ClientState) (now : Stamp) (input : ClientInput) where
           orig = λ p i. too p (has_append os (o ∷ []) p i);
         }
       where
-        go : (p : Operation) → Has p os ⊎ Has p (o ∷ []) → p.stage ≡ stages.Stuck → cs.file_of p.ask ≡ None → ⊥
+        go : (p : Operation) → Has p os ⊎ Has p (o ∷ []) → p.stage ≡ stages.Stuck → ⊥
         go p (inl i) = h.stays p i
-        go p (inr (inl e)) = subst (λ (y : Operation). y.stage ≡ stages.Stuck → cs.file_of y.ask ≡ None → ⊥) (sym e) f
+        go p (inr (inl e)) = subst (λ (y : Operation). y.stage ≡ stages.Stuck → ⊥) (sym e) f
         go p (inr (inr i)) = absurd i
 
         too : (p : Operation) → Has p os ⊎ Has p (o ∷ []) → cs.is_asked_at p.stage ≡ true → Has p s.operations
@@ -333,29 +393,47 @@ module _ (s : ClientState) (now : Stamp) (input : ClientInput) where
         Fine (cr.receive_at now m.header m.body t).operations
     received m is to t place h =
         record {
-          stays = λ p i e f. stay p i e f (heard now m.header t m.body (cr.receive_at now m.header m.body t) (receives now m.header t m.body) p i);
+          stays = λ p i e. stay p i e (heard now m.header t m.body (cr.receive_at now m.header m.body t) (receives now m.header t m.body) p i);
           orig = λ p i e. orig_ p e (heard now m.header t m.body (cr.receive_at now m.header m.body t) (receives now m.header t m.body) p i);
         }
       where
-        stay : (p : Operation) → Has p (cr.receive_at now m.header m.body t).operations → p.stage ≡ stages.Stuck → cs.file_of p.ask ≡ None →
+        stay : (p : Operation) → Has p (cr.receive_at now m.header m.body t).operations → p.stage ≡ stages.Stuck →
             Has p t.operations ⊎ Became now m.header t m.body p → ⊥
-        stay p i e f (inl j) = h.stays p j e f
-        stay p i e f (inr z) =
-            h.stays p (holder_left now m.header z.a z.b t removes p
-            (subst (λ d. Has p (cr.receive_at now m.header d t).operations) (z.says ∙ ap (λ w. bodies.Nack w z.a z.b) told.0) i)) e f
+        stay p i e (inl j) = h.stays p j e
+        stay p i e (inr z) = go (told z.o z.there z.asked)
           where
-            mine : Has z.o s.operations
-            mine = h.orig z.o z.there (and_true (cs.is_of t.here.server z.o) (cs.is_asked_at z.o.stage) z.asked).1
+            told : (o : Operation) → Has o t.operations → cs.is_asked t.here.server o ≡ true → IsTold t o z.session z.request z.w
+            told o j asked =
+                knows.tells m is to t place o (h.orig o j (and_true (cs.is_of t.here.server o) (cs.is_asked_at o.stage) asked).1) asked z.session z.request
+                z.replied_ z.w z.a z.b z.says
 
-            told : (z.w ≡ why.NotHolder) × (cs.asks_cut_or_remove z.request.body ≡ true)
-            told =
-                knows.tells m is to t place z.o mine z.asked (ap (λ (y : Operation). cs.file_of y.ask) (sym z.is) ∙ f) z.session z.request z.replied_ z.w z.a
-                z.b z.says
+            now_here : (w : Why) → z.w ≡ w → Has p (cr.receive_at now m.header (bodies.Nack w z.a z.b) t).operations
+            now_here w q = subst (λ d. Has p (cr.receive_at now m.header d t).operations) (z.says ∙ ap (λ w. bodies.Nack w z.a z.b) q) i
 
-            removes : (x : ClientSession) (q : Request) → t.here.session ≡ Some x → x.requests.asked ≡ Some q → cs.asks_cut_or_remove q.body ≡ true
-            removes x q a b =
-                subst (λ (y : Request). cs.asks_cut_or_remove y.body ≡ true)
-                (some_is (sym z.replied_.asked ∙ (ap (λ (y : ClientSession). y.requests.asked) (some_is (sym z.replied_.heard.session ∙ a)) ∙ b))) told.1
+            -- the session and its outstanding request are these
+            own : (F : ClientSession → Request → Type 0) → F z.session z.request → (x : ClientSession) (q : Request) → t.here.session ≡ Some x →
+                x.requests.asked ≡ Some q → F x q
+            own F k x q a b =
+                let s = some_is (sym z.replied_.heard.session ∙ a) in
+                subst (λ (v : ClientSession). F v q) s
+                (subst (F z.session) (some_is (sym z.replied_.asked ∙ (ap (λ (y : ClientSession). y.requests.asked) s ∙ b))) k)
+
+            both : (ino : ℕ) → cs.file_asked z.session.cutting z.request.body ≡ Some ino → z.w ≡ why.NoFile → (o : Operation) →
+                IsTold t o z.session z.request z.w → cr.works_on t ino o ≡ true
+            both ino f q o (inl y) = absurd (no (sym q ∙ y.0))
+              where
+                no : why.NoFile ≡ why.NotHolder → ⊥
+                no e = cc e
+            both ino f q o (inr y) = subst (λ n. cr.works_on t n o ≡ true) (some_is (sym y.1.1 ∙ f)) y.1.2
+
+            go : IsTold t z.o z.session z.request z.w → ⊥
+            go (inl y) =
+                h.stays p
+                (holder_left now m.header z.a z.b t (own (λ x q. cs.asks_cut_or_remove q.body ≡ true) y.1) p (now_here why.NotHolder y.0)) e
+            go (inr y) =
+                h.stays p
+                (file_left now m.header z.a z.b t y.1.0 (own (λ x q. cs.file_asked x.cutting q.body ≡ Some y.1.0) y.1.1)
+                (λ o j a. both y.1.0 y.1.1 y.0 o (told o j a)) p (now_here why.NoFile y.0)) e
 
         orig_ : (p : Operation) → cs.is_asked_at p.stage ≡ true → Has p t.operations ⊎ Became now m.header t m.body p → Has p s.operations
         orig_ p e (inl j) = h.orig p j e
@@ -367,7 +445,7 @@ module _ (s : ClientState) (now : Stamp) (input : ClientInput) where
         at_server (λ u. Fine u.operations) (server_of ask) (cl.take_ask op ask) t (λ i. go (cl.take_ask op ask t) (takes op ask t)) (λ i. h)
       where
         new : Fine (t.operations ++ cs.new_operation op ask ∷ [])
-        new = one_more t.operations (cs.new_operation op ask) (λ e f. unsent e) (λ e. clash e refl) h
+        new = one_more t.operations (cs.new_operation op ask) (λ e. unsent e) (λ e. clash e refl) h
           where
             unsent : stages.Unsent ≡ stages.Stuck → ⊥
             unsent e = cc e
@@ -402,7 +480,7 @@ module _ (s : ClientState) (now : Stamp) (input : ClientInput) where
         keeps : Stays (t.operations ++ o ∷ [])
         keeps p i = by (has_append t.operations (o ∷ []) p i)
           where
-            by : Has p t.operations ⊎ Has p (o ∷ []) → p.stage ≡ stages.Stuck → cs.file_of p.ask ≡ None → ⊥
+            by : Has p t.operations ⊎ Has p (o ∷ []) → p.stage ≡ stages.Stuck → ⊥
             by (inl j) = h.0 p j
             by (inr (inl e)) = h.1 p (inl e)
             by (inr (inr j)) = absurd j
@@ -438,19 +516,19 @@ module _ (s : ClientState) (now : Stamp) (input : ClientInput) where
     requested tick t _ (asking.Releases x r rs m d e) h = h
     requested tick t _ (asking.AsksFor x xs o ys y f e first) h = λ p i. go p (has_append xs (cp.sent_if y.own o ∷ ys) p i)
       where
-        old : (p : Operation) → Has p (xs ++ o ∷ ys) → p.stage ≡ stages.Stuck → cs.file_of p.ask ≡ None → ⊥
+        old : (p : Operation) → Has p (xs ++ o ∷ ys) → p.stage ≡ stages.Stuck → ⊥
         old p i = h p (subst (Has p) (sym first.there) i)
 
-        sent : (b : Bool) → (cp.sent_if b o).stage ≡ stages.Stuck → cs.file_of (cp.sent_if b o).ask ≡ None → ⊥
-        sent true e f = no e
+        sent : (b : Bool) → (cp.sent_if b o).stage ≡ stages.Stuck → ⊥
+        sent true e = no e
           where
             no : stages.Sent ≡ stages.Stuck → ⊥
             no e = cc e
-        sent false e f = old o (has_right xs (o ∷ ys) o (inl refl)) e f
+        sent false e = old o (has_right xs (o ∷ ys) o (inl refl)) e
 
-        go : (p : Operation) → Has p xs ⊎ Has p (cp.sent_if y.own o ∷ ys) → p.stage ≡ stages.Stuck → cs.file_of p.ask ≡ None → ⊥
+        go : (p : Operation) → Has p xs ⊎ Has p (cp.sent_if y.own o ∷ ys) → p.stage ≡ stages.Stuck → ⊥
         go p (inl i) = old p (has_left xs (o ∷ ys) p i)
-        go p (inr (inl q)) = subst (λ (z : Operation). z.stage ≡ stages.Stuck → cs.file_of z.ask ≡ None → ⊥) (sym q) (sent y.own)
+        go p (inr (inl q)) = subst (λ (z : Operation). z.stage ≡ stages.Stuck → ⊥) (sym q) (sent y.own)
         go p (inr (inr i)) = old p (has_right xs (o ∷ ys) p (inr i))
     requested tick t _ (asking.KeepsAlive x f e) h = h
 

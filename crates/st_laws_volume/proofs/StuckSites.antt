@@ -1,23 +1,24 @@
--- In every run no operation for a name that needs no file is stuck.
+-- In every run no operation is stuck.
 use Rattle.st_lemmas.proofs.Words
-use Words.{◌≡◌, ◌≢◌, ◌⊎◌, ℕ, ◌≤◌, true, not, List, [], Some, None, Ok, refl, sym, ap, ◌∙◌, subst, inl, inr, arith}
-use Words.{map, Ask, Body, ClientId, ClientInput, Event, Message, NameOp, Operation, Stamp, Why, Config}
+use Words.{◌≡◌, ◌≢◌, ◌⊎◌, ℕ, ◌≤◌, true, not, ◌&&◌, ◌==◌, List, [], Option, Some, Ok, refl, sym, ap, ◌∙◌, subst, inl, inr, arith}
+use Words.{eq-eqb, map, Ask, Body, ClientId, ClientInput, Event, FileId, GrantNo, Header, Message, NameOp, Operation, PageNo, Stamp, Why, Config}
 use Words.asks
 use Words.bodies
 use Words.inputs
 use Words.nodes
 use Words.Client as cl
+use Words.ClientReplies as cr
 use Words.ClientState as cs
 use Words.ClientState.{Association, ClientSession, Turn}
 use Words.Events.{WorldTurn, world_step}
 use Words.History.{Traced}
-use Words.Keys.{client}
 use Words.Lists.{Has}
+use Words.Lookups.{some_is}
 use Words.Numbers.{numbered_has}
 use Words.Safety.{Step}
 use Words.Server as sv
-use Words.Tables.{has_map, has_map_in}
-use Words.Truth.{none_not_some}
+use Words.Tables.{and_both, and_true, has_map, has_map_in}
+use Words.Truth.{clash, none_not_some}
 use Words.World.{World, WorldClient, clock_of, fresh_site, fresh_world, numbered, site_of, with_numbered}
 use Rattle.st_messages.specs.declared.message.Why.TheVariants as why
 use Rattle.st_rules.specs.declared.client.Request.{Request}
@@ -33,7 +34,9 @@ use Rattle.st_laws_cuts.proofs.Events.{NextAsk, event_does}
 use Rattle.st_laws_cuts.proofs.Law.{AllHold}
 use Rattle.st_laws_names.specs.Keys.{HasEvent, ServedAt, behind_thefts, is_final, is_kept_why, now_at}
 use Rattle.st_laws_names.proofs.Facts.{FactsHold}
-use Rattle.st_laws_volume.proofs.StuckNames.{Knows, Place, Stays, names_refused, step_stays}
+use Rattle.st_laws_volume.proofs.FileReplies as replied
+use Rattle.st_laws_volume.proofs.FileReplies.{Answers, answers}
+use Rattle.st_laws_volume.proofs.StuckNames.{IsTold, Knows, Place, Stays, names_refused, step_stays}
 use Rattle.st_laws_volume.proofs.ToldResults.{no_reassertion}
 
 -- of each client
@@ -47,10 +50,34 @@ kept_so why.NoSpace k = refl
 kept_so why.NotHolder k = refl
 kept_so w k = cc
 
-name_of : (a : Ask) (b : Body) → AsksFor a b → cs.file_of a ≡ None → (op : NameOp) × (b ≡ bodies.Name op)
-name_of (asks.Cut f p) (bodies.Cut ino g q) k e = cc e
-name_of (asks.Name s n) (bodies.Name op) k e = (op, refl)
-name_of a b k e = absurd k
+-- A server refuses a request for a cut only if its client doesn't hold the file, or if there is none.
+abbrev CutRefused : Why → Type 0
+CutRefused w = (w ≡ why.NotHolder) ⊎ (w ≡ why.NoFile)
+
+cut_refused : (t : sv.ServerTurn) (h : Header) (ino : ℕ) (g : GrantNo) (p : PageNo) (w : Why) (a b : ℕ) (r : Option Body) →
+    Answers t h (bodies.Cut ino g p) r → r ≡ Some (bodies.Nack w a b) → CutRefused w
+cut_refused t h ino g p w a b _ replied.IsSilent q = cc q
+cut_refused t h ino g p w a b _ (replied.IsDone r f) q = absurd (clash (ap cs.is_refusal (some_is q)) f)
+cut_refused t h ino g p w a b _ (replied.IsNoFile i e f) q = inr (its q)
+  where
+    its : Some (bodies.Nack why.NoFile i 0) ≡ Some (bodies.Nack w a b) → w ≡ why.NoFile
+    its q = cc q
+cut_refused t h ino g p w a b _ (replied.HoldsNot i k mode e f u) q = inl (its q)
+  where
+    its : Some (bodies.Nack why.NotHolder i k.0) ≡ Some (bodies.Nack w a b) → w ≡ why.NotHolder
+    its q = cc q
+cut_refused t h ino g p w a b _ (replied.HasTooMany i mode e) q = absurd (none e)
+  where
+    none : bodies.Cut ino g p ≡ bodies.Acquire i mode → ⊥
+    none e = cc e
+cut_refused t h ino g p w a b _ (replied.HasNoSpace i k y n free wanted e f) q = absurd (none e)
+  where
+    none : bodies.Cut ino g p ≡ bodies.Allocate i k y n → ⊥
+    none e = cc e
+cut_refused t h ino g p w a b r (replied.IsOfName op _ e k) q = absurd (none e)
+  where
+    none : bodies.Cut ino g p ≡ bodies.Name op → ⊥
+    none e = cc e
 
 -- One event.
 module _ (k : net.Config) (count : ℕ) (past : List Step) (t : Traced) (h : FactsHold k count past t) where
@@ -62,7 +89,7 @@ module _ (k : net.Config) (count : ℕ) (past : List Step) (t : Traced) (h : Fac
 
   module _ (c : ClientId) (site : WorldClient) (at : site_of w c ≡ Some site) (runs : site.node.running ≡ true) (now : Stamp) (m : Message)
       (among : Has m (messages w)) (to : m.header.to ≡ c.0) (u : Turn) (here : Has u.here site.node.state.associations) (o : Operation)
-      (there : Has o site.node.state.operations) (asked : cs.is_asked u.here.server o ≡ true) (file : cs.file_of o.ask ≡ None) (x : ClientSession)
+      (there : Has o site.node.state.operations) (asked : cs.is_asked u.here.server o ≡ true) (x : ClientSession)
       (q : Request) (r : trace.Replied now m.header m.body u x q) (y : Why) (a b : ℕ) (says : m.body ≡ bodies.Nack y a b) where
     abbrev A : Association
     A = u.here
@@ -90,29 +117,71 @@ module _ (k : net.Config) (count : ℕ) (past : List Step) (t : Traced) (h : Fac
         (h.replies.replies m among A.server r.heard.received.from
         (subst (λ d. is_final d ≡ true) (sym says) (kept_so y (subst (λ d. may_date m.header.number d ≡ true) says r.dates))))
 
-    told : (y ≡ why.NotHolder) × (cs.asks_cut_or_remove q.body ≡ true)
-    told = go event
+    -- the request was served, and refused so
+    served : (body : Body) → q.body ≡ body →
+        (z : Step) × ((v : ServedAt z c A.server m.header.life m.header.epoch m.header.number m.body)
+        × ((sv.rule (behind_thefts z.before.world A.server v.serves.old.state) (now_at z.before.world A.server) v.sent.message.header body).reply
+        ≡ Some (bodies.Nack y a b)))
+    served body is = go event
       where
-        name : (op : NameOp) × (q.body ≡ bodies.Name op)
-        name = name_of o.ask q.body means file
-
-        served : (z : Step) → Has z past → ServedAt z c A.server m.header.life m.header.epoch m.header.number m.body →
-            (y ≡ why.NotHolder) × (cs.asks_cut_or_remove q.body ≡ true)
-        served z j v =
-            let sent : Has v.sent.message (messages w) =
-            all.base.cuts.grown z j v.sent.message
-            (has_map_in message_in z.before.world.net.messages v.sent (numbered_has z.before.world.net.messages v.index v.sent v.is)) in
-            let l =
-            names_refused (behind_thefts z.before.world A.server v.serves.old.state) (now_at z.before.world A.server) v.sent.message.header name.0 y a b
-            (subst
-            (λ d.
-            (sv.rule (behind_thefts z.before.world A.server v.serves.old.state) (now_at z.before.world A.server) v.sent.message.header d).reply
-            ≡ Some (bodies.Nack y a b)) (same v.sent.message sent v.serves.keyed ∙ name.1) (v.serves.replied ∙ ap (λ d. Some d) says)) in
-            (l.0, ap cs.asks_cut_or_remove name.1 ∙ l.1)
-
-        go : HasEvent past w c A.server m.header.life m.header.epoch m.header.number m.body → (y ≡ why.NotHolder) × (cs.asks_cut_or_remove q.body ≡ true)
-        go (inl (z, j, v)) = served z j v
+        go : HasEvent past w c A.server m.header.life m.header.epoch m.header.number m.body →
+            (z : Step) × ((v : ServedAt z c A.server m.header.life m.header.epoch m.header.number m.body)
+            × ((sv.rule (behind_thefts z.before.world A.server v.serves.old.state) (now_at z.before.world A.server) v.sent.message.header body).reply
+            ≡ Some (bodies.Nack y a b)))
+        go (inl (z, j, v)) = (
+          z,
+          (
+            v,
+            subst
+                (λ d.
+                (sv.rule (behind_thefts z.before.world A.server v.serves.old.state) (now_at z.before.world A.server) v.sent.message.header d).reply
+                ≡ Some (bodies.Nack y a b))
+                (same v.sent.message
+                (all.base.cuts.grown z j v.sent.message
+                (has_map_in message_in z.before.world.net.messages v.sent (numbered_has z.before.world.net.messages v.index v.sent v.is))) v.serves.keyed ∙ is)
+                (v.serves.replied ∙ ap (λ d. Some d) says),
+          ),
+        )
         go (inr z) = absurd (no_reassertion o.ask z.by.body (subst (AsksFor o.ask) (sym (same z.by z.among z.keyed)) means) z.asks)
+
+    own : cs.is_of A.server o ≡ true
+    own = (and_true (cs.is_of A.server o) (cs.is_asked_at o.stage) asked).0
+
+    told : IsTold u o x q y
+    told = by o.ask q.body refl refl means
+      where
+        of_name : (op : NameOp) → q.body ≡ bodies.Name op → IsTold u o x q y
+        of_name op is =
+            let z = served (bodies.Name op) is in
+            let l =
+            names_refused (behind_thefts z.0.before.world A.server z.1.0.serves.old.state) (now_at z.0.before.world A.server) z.1.0.sent.message.header op y a b
+            z.1.1 in
+            inl (l.0, ap cs.asks_cut_or_remove is ∙ l.1)
+
+        of_cut : (f : FileId) (p : PageNo) (ino : ℕ) (g : GrantNo) (r : PageNo) → o.ask ≡ asks.Cut f p → q.body ≡ bodies.Cut ino g r → f.ino ≡ ino →
+            IsTold u o x q y
+        of_cut f p ino g r ask is file =
+            let z = served (bodies.Cut ino g r) is in
+            let t = behind_thefts z.0.before.world A.server z.1.0.serves.old.state in
+            let n = now_at z.0.before.world A.server in
+            go
+            (cut_refused t z.1.0.sent.message.header ino g r y a b (sv.rule t n z.1.0.sent.message.header (bodies.Cut ino g r)).reply
+            (answers t n z.1.0.sent.message.header (bodies.Cut ino g r)) z.1.1)
+          where
+            works : cr.works_on u ino o ≡ true
+            works =
+                and_both (cs.is_of A.server o && cs.is_file ino (cs.file_of o.ask)) (not (cs.is_sync o.ask))
+                (and_both (cs.is_of A.server o) (cs.is_file ino (cs.file_of o.ask)) own
+                (ap (λ k. cs.is_file ino (cs.file_of k)) ask ∙ eq-eqb f.ino ino file)) (ap (λ k. not (cs.is_sync k)) ask)
+
+            go : CutRefused y → IsTold u o x q y
+            go (inl e) = inl (e, ap cs.asks_cut_or_remove is)
+            go (inr e) = inr (e, (ino, ap (cs.file_asked x.cutting) is, works))
+
+        by : (ask : Ask) (b : Body) → o.ask ≡ ask → q.body ≡ b → AsksFor ask b → IsTold u o x q y
+        by (asks.Cut f p) (bodies.Cut ino g r) e is k = of_cut f p ino g r e is k.0
+        by (asks.Name s n) (bodies.Name op) e is k = of_name op is
+        by ask b e is k = absurd k
 
   none_stays : (os : List Operation) → os ≡ [] → Stays os
   none_stays os e o i = absurd (subst (Has o) e i)
@@ -144,13 +213,12 @@ module _ (k : net.Config) (count : ℕ) (past : List Step) (t : Traced) (h : Fac
           now = clock_of v (nodes.Client c)
 
           tells : (m : Message) → i ≡ inputs.Control m → m.header.to ≡ old.node.state.id.0 → (u : Turn) → Place old.node.state now i u.here → (o : Operation) →
-              Has o old.node.state.operations → cs.is_asked u.here.server o ≡ true → cs.file_of o.ask ≡ None → (x : ClientSession) (q : Request) →
-              trace.Replied now m.header m.body u x q → (y : Why) (a b : ℕ) → m.body ≡ bodies.Nack y a b →
-              (y ≡ why.NotHolder) × (cs.asks_cut_or_remove q.body ≡ true)
-          tells m is to u (inl none) o there asked file x q r y a b says = absurd (none_not_some x (sym none ∙ r.heard.session))
-          tells m is to u (inr here) o there asked file x q r y a b says =
+              Has o old.node.state.operations → cs.is_asked u.here.server o ≡ true → (x : ClientSession) (q : Request) →
+              trace.Replied now m.header m.body u x q → (y : Why) (a b : ℕ) → m.body ≡ bodies.Nack y a b → IsTold u o x q y
+          tells m is to u (inl none) o there asked x q r y a b says = absurd (none_not_some x (sym none ∙ r.heard.session))
+          tells m is to u (inr here) o there asked x q r y a b says =
               told c old at (ap (λ (n : cl.ClientNode). n.running) (sym same) ∙ run) now m (subst (λ j. NextAsk w j old site) is next)
-              (to ∙ ap (λ (d : ClientId). d.0) (all.base.cuts.fates.lives.lives.sites c old at).id) u here o there asked file x q r y a b says
+              (to ∙ ap (λ (d : ClientId). d.0) (all.base.cuts.fates.lives.lives.sites c old at).id) u here o there asked x q r y a b says
 
 pub stuck_begin : (k : Config) (clients servers disks blocks form : ℕ) → SitesStay (fresh_world k clients servers disks blocks form)
 unfolding fresh_world cl.fresh_client

@@ -25,7 +25,8 @@ use Rattle.st_laws_volume.specs.Options.{OnSome}
 use Rattle.st_laws_volume.specs.Seen.{failure, failure_of, failure_told, of_event}
 use Rattle.st_laws_volume.specs.TreeNames.{IsSound}
 use Rattle.st_laws_volume.specs.Trees.{HasTreesOf, TreesAgree, tree_at, trees_of}
-use Rattle.st_laws_volume.specs.Witness.{Behind, Witness, begun, if_told, led_by, of_delivery, of_lines, size_of, steps_of, volume_after}
+use Rattle.st_laws_volume.specs.VolumeRuns.{size_of}
+use Rattle.st_laws_volume.specs.Witness.{Behind, Witness, begun, if_told, led_by, of_delivery, of_lines, steps_of, volume_after}
 use Rattle.st_laws_volume.proofs.Carried.{IsKept, Led, carried}
 use Rattle.st_laws_volume.proofs.LogLines.{run_then}
 use Rattle.st_laws_volume.proofs.Options.{on_if, on_more, on_then}

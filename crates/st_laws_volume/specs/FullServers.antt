@@ -1,15 +1,13 @@
--- Full servers: if a server that has no free block has no room in the volume either, its open asks notice that before an answer `nospace`.
-use Rattle.std.specs.Prelude.{◌≡◌, ◌⊎◌, ◌<◌, ℕ, true, List, Some, find, ⊤}
+-- Full servers: a server that has no free block has no room in the volume either, and its open asks notice that before an answer `nospace`.
+use Rattle.std.specs.Prelude.{◌≡◌, ℕ, true, List, Some, find, ⊤}
 use Rattle.st_base.specs.declared.ids.ServerId.{ServerId}
 use Rattle.st_messages.specs.declared.answer.AppAnswer.TheVariants as answers
 use Rattle.st_rules.specs.Extents.{free}
 use Rattle.st_rules.specs.Safety.{Promise, Step}
 use Rattle.st_rules.specs.Server.{ServerNode}
 use Rattle.st_rules.specs.World.{World, node_of}
-use Rattle.st_laws_volume.specs.Logs.{InEveryRun}
 use Rattle.st_laws_volume.specs.NoSpaceAnswers.{IsRefusedBlock}
 use Rattle.st_laws_volume.specs.Options.{OnSome}
-use Rattle.st_laws_volume.specs.Refusals.{asks_before}
 use Rattle.st_laws_volume.specs.StepKinds.{AtEachStepOf}
 use Rattle.st_laws_volume.specs.Witness.{led_to}
 use Rattle.st_volume.specs.declared.step.VolumeStep.{VolumeStep}
@@ -24,10 +22,10 @@ AreFull w v = (s : ServerId) (node : ServerNode) → node_of w s ≡ Some node �
 abbrev pub FullServersHaveNoRoom : Promise
 FullServersHaveNoRoom past x = OnSome (AreFull x.before.world) (led_to past x).volume
 
--- The ask that is answered so has noticed that its server was full, or came after the server refused the request for its page.
+-- The ask that is answered so has noticed that its server was full, as the server refused the request for its page.
 pub record IsOfFull (past : List Step) (a : Pending) (left wanted : ℕ) : Type 0 where
   pub refused : IsRefusedBlock past a left wanted
-  pub noticed : (a.full ≡ true) ⊎ (asks_before refused.full.refused a.client < a.op)
+  pub noticed : a.full ≡ true
 
 abbrev pub IsFullNoticed : List Step → VolumeStep → Volume → Type 0
 IsFullNoticed past (kinds.Answered c op (answers.NoSpace left wanted)) v =
@@ -37,7 +35,3 @@ IsFullNoticed past it v = ⊤
 -- Full servers are noticed: at each answer `nospace`, if the volume has taken all steps before it.
 abbrev pub FullServersAreNoticed : Promise
 FullServersAreNoticed past x = AtEachStepOf (IsFullNoticed past) past x
-
--- in every run, if full servers have no room
-abbrev pub FullOnesAreNoticed : Type 0
-FullOnesAreNoticed = InEveryRun FullServersHaveNoRoom → InEveryRun FullServersAreNoticed

@@ -7,8 +7,6 @@ use Rattle.st_rules.specs.Safety.{Promise}
 use Rattle.st_rules.specs.Server.{ServerNode}
 use Rattle.st_rules.specs.World.{World, node_of}
 use Rattle.st_lemmas.specs.Lists.{Has}
-use Rattle.st_laws_volume.specs.FullServers.{FullServersHaveNoRoom}
-use Rattle.st_laws_volume.specs.Logs.{InEveryRun}
 use Rattle.st_laws_volume.specs.Options.{OnSome}
 use Rattle.st_laws_volume.specs.Witness.{are_claimed, led_to}
 use Rattle.st_volume.specs.Volume.{Volume}
@@ -36,7 +34,3 @@ AllHaveRoom w v = (s : ServerId) (node : ServerNode) → node_of w s ≡ Some no
 -- Room is wanted: as each event begins, if the volume has taken the steps of all events before it.
 abbrev pub RoomIsWanted : Promise
 RoomIsWanted past x = OnSome (AllHaveRoom x.before.world) (led_to past x).volume
-
--- In every run, if room is wanted so, full servers have no room.
-abbrev pub WantedRoomIsFull : Type 0
-WantedRoomIsFull = InEveryRun RoomIsWanted → InEveryRun FullServersHaveNoRoom

@@ -1,7 +1,7 @@
 -- What users see of an event of the world: the steps of the volume that the schedule and its report
 -- tell.
 use Rattle.std.specs.Prelude.{ℕ, Bool, true, false, List, [], ◌∷◌, ◌++◌, Option, Some, None}
-use Rattle.std.specs.Prelude.{if◌then◌else◌, option_map, ⊤}
+use Rattle.std.specs.Prelude.{if◌then◌else◌, option_map, unwrap_or, ⊤}
 use Rattle.std.specs.List.{flat_map}
 use Rattle.st_base.specs.declared.ids.NodeId.TheVariants as nodes
 use Rattle.st_messages.specs.declared.ask.Ask.TheVariants as asks
@@ -41,13 +41,13 @@ of_event w (events.Report k false) = failure_of w (issued_of w k)
 of_event w e = []
 
 -- The lines of its report: entries that join the log, fates and answers. A line of a drop names a command by the world's number of it; the client's own number
--- is given.
+-- is given, or 0 if there is no such command.
 abbrev pub number_of : IssuedCommand → ℕ
 number_of k = k.number
 
 abbrev pub cause_of : World → Cause → Option ℕ
 cause_of w causes.Crash = None
-cause_of w (causes.Failed k) = option_map number_of (issued_of w k)
+cause_of w (causes.Failed k) = Some (unwrap_or (option_map number_of (issued_of w k)) 0)
 
 unfoldable pub of_line : World → Observation → List VolumeStep
 of_line w (seen.Wrote i c f p bytes) = steps.Joined i (Some c) (asks.Write f p bytes) ∷ []

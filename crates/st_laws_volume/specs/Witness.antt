@@ -1,7 +1,7 @@
 -- The witness: the steps of the volume that an event of the world is, and whether the volume takes
 -- them. It is a means of proof: nobody needs to trust it.
-use Rattle.std.specs.Prelude.{◌≡◌, ℕ, ◌+◌, ◌*◌, Bool, true, false, ◌&&◌, not, ◌==◌, if◌then◌else◌, List}
-use Rattle.std.specs.Prelude.{[], ◌∷◌, ◌++◌, length, filter, find, map, Option, Some, None, is_some}
+use Rattle.std.specs.Prelude.{◌≡◌, ℕ, ◌+◌, Bool, true, false, ◌&&◌, not, ◌==◌, if◌then◌else◌, List}
+use Rattle.std.specs.Prelude.{[], ◌∷◌, ◌++◌, length, filter, find, Option, Some, None, is_some}
 use Rattle.std.specs.Prelude.{bytes_eq, option_and_then, ⊤}
 use Rattle.std.specs.List.{flat_map, list_all, list_any}
 use Rattle.st_base.specs.declared.ids.ClientId.{ClientId}
@@ -38,21 +38,20 @@ use Rattle.st_rules.specs.declared.world.SentMessage.{SentMessage}
 use Rattle.st_rules.specs.Authority.{started}
 use Rattle.st_rules.specs.ClientState.{Association, ClientSession, ClientState, is_asked}
 use Rattle.st_rules.specs.Events.{counted}
-use Rattle.st_rules.specs.Extents.{numbers}
-use Rattle.st_rules.specs.Keys.{same_server}
 use Rattle.st_rules.specs.Server as server_rules
 use Rattle.st_rules.specs.Server.{ServerNode, ServerTurn, sender}
-use Rattle.st_rules.specs.World.{World, WorldClient, all_servers, clock_of, message_of, node_of}
-use Rattle.st_rules.specs.World.{receiver_of, server_of_disk}
+use Rattle.st_rules.specs.World.{World, WorldClient, clock_of, message_of, node_of}
+use Rattle.st_rules.specs.World.{receiver_of}
 use Rattle.st_rules.specs.Safety.{Promise, Step}
 use Rattle.st_laws_volume.specs.Seen.{of_event, of_line, seen_of, is_seen}
+use Rattle.st_laws_volume.specs.VolumeRuns.{volume_of}
 use Rattle.st_volume.specs.declared.step.VolumeStep.{VolumeStep}
 use Rattle.st_volume.specs.declared.step.VolumeStep.TheVariants as steps
 use Rattle.st_volume.specs.declared.step.Fate as volume_fate
 use Rattle.st_volume.specs.declared.step.Fate.TheVariants as fates
 use Rattle.st_volume.specs.Pages.{Entry, is_any, same_place}
 use Rattle.st_volume.specs.Trees.{Tree, DirEntry}
-use Rattle.st_volume.specs.Volume.{Volume, Pending, fresh_volume, is_ask, run}
+use Rattle.st_volume.specs.Volume.{Volume, Pending, is_ask, run}
 
 -- Requests: which ask a client's request for a cut or a name is of, by the key of the request. A key
 -- is a client, a server, a life, an epoch and a number.
@@ -68,17 +67,10 @@ pub record Witness : Type 0 where
   pub volume : Option Volume
   pub behind : List Behind
 
--- each server has room for the blocks of its disks
-abbrev pub is_disk_of : World → ServerId → ℕ → Bool
-is_disk_of w s d =
-    same_server (server_of_disk w (record { disk = record { 0 = d }; block = 0 })) s
-
-abbrev pub size_of : World → ServerId → ℕ
-size_of w s = w.disks.blocks * length (filter (is_disk_of w s) (numbers 1 w.disks.disks))
-
+-- The witness at the start: the volume of the world, and no request
 unfoldable pub begun : World → World → Witness
 begun w again =
-    record { volume = Some (fresh_volume (map (size_of w) (all_servers w))); behind = [] }
+    record { volume = Some (volume_of w); behind = [] }
 
 -- the world before the first of these steps
 abbrev pub first_world : List Step → Step → World

@@ -1,9 +1,10 @@
-//! Every run of the world is a run of the volume: what is seen of an event as steps of the volume,
-//! and the steps that it is. Only parts of the law itself are proved: those that say "if the
-//! volume has taken the steps" don't say that it takes them.
+//! Every run of the world is a run of the volume (`every_run_is_a_run_of_the_volume`): what is
+//! seen of an event as steps of the volume, and the steps that it is. The other laws are its
+//! parts. Those that say "if the volume has taken the steps" don't say that it takes them; the
+//! theorem does.
 #![tactic(auto)]
 
-ghost use Rattle.st_laws_volume.specs.AnswerKinds.{AnswersFollowLines, FilesAreAnsweredWithoutResults, LossesAreToldWhole, ResultsAreAnswered, is_disk_fault, is_lost_answer, is_opsfull, is_quiesced, is_uncertain};
+ghost use Rattle.st_laws_volume.specs.AnswerKinds.{AnswersFollowLines, FilesAreAnsweredWithoutResults, LossesAreToldWhole, ResultsAreAnswered, is_dirty_full_answer, is_disk_fault, is_lost_answer, is_no_file, is_no_space, is_not_holder, is_opsfull, is_quiesced, is_read_answer, is_too_many_locks, is_uncertain};
 ghost use Rattle.st_laws_volume.specs.AskedAsks.{AsksAreAsAsked};
 ghost use Rattle.st_laws_volume.specs.Asks.{AsksAgree};
 ghost use Rattle.st_laws_volume.specs.DirtyEntries.{DirtyPagesHaveEntries, FullClientsAreFull};
@@ -12,12 +13,13 @@ ghost use Rattle.st_laws_volume.specs.Effects.{ChangesFindTheirFiles, ChangesTak
 ghost use Rattle.st_laws_volume.specs.Epochs.{EpochsAgree};
 ghost use Rattle.st_laws_volume.specs.FateMarks.{CrashedEntriesArePast, CrashesAreMarked, FailedWritesAreRemembered};
 ghost use Rattle.st_laws_volume.specs.Fates.{StillEventsAreTaken};
-ghost use Rattle.st_laws_volume.specs.FullServers.{FullOnesAreNoticed};
+ghost use Rattle.st_laws_volume.specs.FullServers.{FullServersAreNoticed, FullServersHaveNoRoom};
 ghost use Rattle.st_laws_volume.specs.HardFiles.{HardFilesAreClean};
+ghost use Rattle.st_laws_volume.specs.HeldCuts.{CutFilesAreHeld};
+ghost use Rattle.st_laws_volume.specs.KnownFiles.{KnownFilesExist};
 ghost use Rattle.st_laws_volume.specs.StepKinds.{AnswersAreToOpenAsks, EntriesAreTold, KindsAreEnough, StepsAreTaken, is_ask, is_change_line, is_effect, is_failed_write, is_fate, is_free, is_hard_answer, is_line, is_written};
 ghost use Rattle.st_laws_volume.specs.Laws.{RunsInParts, StepsShowTheEvent, TheStartAgrees};
-ghost use Rattle.st_laws_volume.specs.LeftAnswers.{NoFileIsTaken, NoSpaceIsTaken, ReadsAreTaken};
-ghost use Rattle.st_laws_volume.specs.LeftFacts.{LeftFactsAreEnough};
+ghost use Rattle.st_laws_volume.specs.LateFiles.{LateFilesAreMissed};
 ghost use Rattle.st_laws_volume.specs.Logs.{InEveryRun, LogsAgree};
 ghost use Rattle.st_laws_volume.specs.LossMarks.{LatePagesHaveFailed, LossesAreMet, PagesAreOnce};
 ghost use Rattle.st_laws_volume.specs.NoFileAnswers.{FilesAreMissing};
@@ -26,7 +28,8 @@ ghost use Rattle.st_laws_volume.specs.NotHolderAnswers.{LocksWereMissing};
 ghost use Rattle.st_laws_volume.specs.Notices.{AsksHaveNoticed};
 ghost use Rattle.st_laws_volume.specs.OtherAnswers.{OtherAnswersAreEnough};
 ghost use Rattle.st_laws_volume.specs.OwedRows.{OwedRowsNameEntries};
-ghost use Rattle.st_laws_volume.specs.PageBlocks.{PagesLieOnOneBlock, WantedRoomIsFull};
+ghost use Rattle.st_laws_volume.specs.PageBlocks.{PagesLieOnOneBlock, RoomIsWanted};
+ghost use Rattle.st_laws_volume.specs.ReadFiles.{ReadsAreOfFiles, ReadsFindTheirFiles};
 ghost use Rattle.st_laws_volume.specs.Reads.{PagesAgree, ReadsGiveThePages};
 ghost use Rattle.st_laws_volume.specs.Refusals.{GoneFilesStayGone, NoticesStay, RefusalsAreNoticed, RepliesStayNoticed};
 ghost use Rattle.st_laws_volume.specs.Requests.{AsksOfRequestsAreNext, RequestsAreForTheirAsks, RequestsFindNone, RequestsHaveAsks, RequestsHaveEffects, RequestsTakeEffectInOrder};
@@ -35,6 +38,7 @@ ghost use Rattle.st_laws_volume.specs.Results.{OrphansHaveNoResult, ResultsAreOf
 ghost use Rattle.st_laws_volume.specs.SentOrder.{RequestsAreInOrder};
 ghost use Rattle.st_laws_volume.specs.TreeNames.{NamesStaySound, SoundNamesDoTheSame};
 ghost use Rattle.st_laws_volume.specs.Trees.{TreesAgree};
+ghost use Rattle.st_laws_volume.specs.VolumeRuns.{EveryRunIsARunOfTheVolume};
 
 /// What is seen of the steps that an event is, is what is seen of the event, in its order.
 pub fn steps_show_the_event()
@@ -151,25 +155,46 @@ pub fn answers_follow_lines()
     ensures { InEveryRun AnswersFollowLines }
 {}
 
+/// In every run, after every event: each file of which a client that runs knows where pages lie,
+/// under a lease that isn't over, is one that its server has.
+pub fn known_files_exist()
+    ensures { InEveryRun KnownFilesExist }
+{}
+
+/// In every run, as an event begins, each read that it answers finds that its file exists, and that
+/// what is pending of the file is of the client that reads. In the event only this client changes
+/// the log.
+pub fn reads_are_of_files()
+    ensures { InEveryRun ReadsAreOfFiles }
+{}
+
+/// In every run, at each answer that tells the bytes of a page, the file exists in the volume, and
+/// no other client has open entries of it, if the volume has taken all steps before it.
+pub fn reads_find_their_files()
+    ensures { InEveryRun ReadsFindTheirFiles }
+{}
+
 /// In every run the volume takes each answer that tells the bytes of a page, if it has taken all
-/// steps before it. This holds if at each such answer the file exists, and no other client has open
-/// entries of it.
+/// steps before it.
 pub fn reads_are_taken()
-    ensures { ReadsAreTaken }
+    ensures { InEveryRun (StepsAreTaken is_read_answer) }
 {}
 
-/// In every run the volume takes each answer `nospace`, if it has taken all steps before it. This
-/// holds if each server that has no free block is full in the volume, as each event begins, and if
-/// an ask that came after the refusal of its page has noticed that its server was full.
+/// In every run the volume takes each answer `nospace`, if it has taken all steps before it.
 pub fn no_space_is_taken()
-    ensures { NoSpaceIsTaken }
+    ensures { InEveryRun (StepsAreTaken is_no_space) }
 {}
 
-/// In every run the volume takes each answer `nofile`, if it has taken all steps before it. This
-/// holds if an ask that came after the refusal of a request for its file has noticed that the file
-/// didn't exist.
+/// In every run the volume takes each answer `nofile`, if it has taken all steps before it.
 pub fn no_file_is_taken()
-    ensures { NoFileIsTaken }
+    ensures { InEveryRun (StepsAreTaken is_no_file) }
+{}
+
+/// In every run, at each answer `nofile`: the ask may have come after its server had refused a
+/// request of the client for the file, and the server may have given the inode only after that.
+/// Even so the ask has noticed that its file didn't exist.
+pub fn late_files_are_missed()
+    ensures { InEveryRun LateFilesAreMissed }
 {}
 
 /// Every run is a run of the volume, if in every run the volume takes the answers of six kinds, if
@@ -179,12 +204,12 @@ pub fn other_answers_are_enough()
     ensures { OtherAnswersAreEnough }
 {}
 
-/// Every run is a run of the volume, if four facts hold in every run, and the volume takes the
-/// answers `dirtyfull`, `notholder` and `toomanylocks`. A read that is answered finds its file,
-/// without open entries of other clients. Room was wanted for each page that a server has mapped.
-/// An ask that came after a refusal for its page or its file has noticed the same.
-pub fn left_facts_are_enough()
-    ensures { LeftFactsAreEnough }
+/// Every run is a run of the volume: from the world of every head and over every list of events in
+/// their ranges, up to the first that is refused. What is seen of an event is what is seen of some
+/// steps of the volume, and the volume takes them one after another. `docs/PROTOCOL.md`, "The
+/// volume".
+pub fn every_run_is_a_run_of_the_volume()
+    ensures { EveryRunIsARunOfTheVolume }
 {}
 
 /// In every run the volume takes each crash of a client, start of a server and failed read, if
@@ -348,6 +373,22 @@ pub fn full_clients_are_full()
     ensures { InEveryRun FullClientsAreFull }
 {}
 
+/// In every run the volume takes each answer `dirtyfull`, if it has taken all steps before it. At
+/// its line 64 other pages of the server are dirty at the client. Each has an entry of the client,
+/// which was not dropped. The client hasn't crashed since the entry joined the log, and was not
+/// told of it.
+pub fn dirty_full_answers_are_taken()
+    ensures { InEveryRun (StepsAreTaken is_dirty_full_answer) }
+{}
+
+/// In every run the volume takes each answer `toomanylocks`, if it has taken all steps before it. A
+/// server refused a request of the client for a lock, since the client had locks of 1,024 other
+/// files, or waited for them. The client was asked of each of these files: a lock has the number of
+/// a grant that was sent for a request, and a request for a lock is of the file of an open ask.
+pub fn too_many_locks_are_taken()
+    ensures { InEveryRun (StepsAreTaken is_too_many_locks) }
+{}
+
 /// In every run, after every event: no page is dirty twice at a client.
 pub fn pages_are_once()
     ensures { InEveryRun PagesAreOnce }
@@ -429,18 +470,21 @@ pub fn servers_were_full()
     ensures { InEveryRun ServersWereFull }
 {}
 
-/// In every run each answer `nospace` goes to an ask that has noticed that its server was full, or
-/// that came after the server had refused the request for its page. This holds if each server that
-/// has no free block is full in the volume, as each event begins.
+/// In every run each answer `nospace` goes to an ask that has noticed that its server was full.
 pub fn full_servers_are_noticed()
-    ensures { FullOnesAreNoticed }
+    ensures { InEveryRun FullServersAreNoticed }
+{}
+
+/// In every run, as each event begins, room was wanted in the volume for each page that a server
+/// has mapped, if the volume has taken the steps of all events before it.
+pub fn room_is_wanted()
+    ensures { InEveryRun RoomIsWanted }
 {}
 
 /// In every run, as each event begins, each server that has no free block is full in the volume, if
-/// the volume has taken the steps of all events before it. This holds if room was wanted for each
-/// page that a server has mapped.
-pub fn wanted_room_is_full()
-    ensures { WantedRoomIsFull }
+/// the volume has taken the steps of all events before it.
+pub fn full_servers_have_no_room()
+    ensures { InEveryRun FullServersHaveNoRoom }
 {}
 
 /// In every run each answer `notholder` goes to an ask that has no result, if the volume has taken
@@ -448,6 +492,19 @@ pub fn wanted_room_is_full()
 /// file under the grant that it named.
 pub fn locks_were_missing()
     ensures { InEveryRun LocksWereMissing }
+{}
+
+/// In every run the volume takes each answer `notholder`, if it has taken all steps before it: it
+/// goes to a remove that has noticed that another file has its name.
+pub fn not_holder_answers_are_taken()
+    ensures { InEveryRun (StepsAreTaken is_not_holder) }
+{}
+
+/// In every run no server refuses a cut since its client doesn't hold the file. While the server
+/// may serve such a request, it has the exclusive row of the client, under the grant that the
+/// request names.
+pub fn cut_files_are_held()
+    ensures { InEveryRun CutFilesAreHeld }
 {}
 
 /// In every run a file that a server lacked as a step began, although it had given its inode,

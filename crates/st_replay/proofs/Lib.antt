@@ -6,6 +6,7 @@ pub mod Newlines
 pub mod FirstNewline
 pub mod Feeding
 pub mod LastLines
+pub mod Law
+pub mod VolumeRuns
 pub mod Streams
 pub mod Reported
-pub mod Law

@@ -17,6 +17,7 @@ use Rattle.st_replay.specs.declared.fault.Stop.TheVariants as stops
 use Rattle.st_runs.specs.Schedule.{lines_of}
 use Rattle.st_runs.specs.Replay.{Replay, Whole, behind, last_line, text, replay_lines, replay_of, report_of}
 use Rattle.st_replay.proofs.Law.{every_schedule_runs_safely}
+use Rattle.st_replay.proofs.VolumeRuns.{every_schedule_runs_in_the_volume}
 use Rattle.st_replay.specs.Pieces.{Passes, whole_lines}
 use Rattle.st_replay.specs.Ends.{IsCutOff}
 use Rattle.st_replay.specs.States.{AtStop, EndsAt, Feeds, Handled, HasNone, IsHere, from_here}
@@ -130,6 +131,7 @@ cut_off left now later before written pending v q next holds s empty kept =
       passes = subst (λ ls. Passes (length ls) (replay_lines (whole_lines s.taken)).last) (sym are) (subst (Passes (length s.handled)) (ap (λ
           (x : Replay). x.last) all) z.passes);
       safe = every_schedule_runs_safely (whole_lines s.taken);
+      volume = every_schedule_runs_in_the_volume (whole_lines s.taken);
     }
 
 -- Before the first piece.

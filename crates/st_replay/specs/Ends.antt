@@ -10,6 +10,7 @@ use Rattle.st_replay.specs.declared.fault.ReplayFault.TheVariants as faults
 use Rattle.st_runs.specs.Replay.{Replay, Last, Whole, Stopped, text, replay_lines}
 use Rattle.st_runs.specs.Safe.{RunsSafely}
 use Rattle.st_replay.specs.Pieces.{Passes, whole_lines}
+use Rattle.st_replay.specs.VolumeRuns.{RunsInTheVolume}
 
 -- What was written, next to the replay of all bytes: the whole report if it went through the end or stopped at a line, and otherwise a prefix of it.
 abbrev pub Reports : Result (Summary × World) ReplayFault → Option (List ℕ) → Option (List ℕ) → Replay → Type 0
@@ -20,13 +21,14 @@ Reports (Err faults.Write) before now p = AppendsPrefix before now (text p)
 Reports (Err faults.Memory) before now p = AppendsPrefix before now (text p)
 
 -- After a failed read what was written is what was observed in the lines whose newlines were taken; none of these is refused, and
--- their run is safe.
+-- their run is safe and is a run of the volume.
 pub record IsCutOff (left_before left_now written_before written_now : Option (List ℕ)) : Type 0 where
   pub taken : List ℕ
   pub took : Consumes left_before left_now taken
   pub wrote : Appends written_before written_now (replay_lines (whole_lines taken)).front
   pub passes : Passes (length (whole_lines taken)) (replay_lines (whole_lines taken)).last
   pub safe : RunsSafely (whole_lines taken)
+  pub volume : RunsInTheVolume (whole_lines taken)
 
 -- a fact of a read that failed
 abbrev pub OnRead : {T : Type 0} → Result T ReplayFault → Type 0 → Type 0

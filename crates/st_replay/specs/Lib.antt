@@ -2,3 +2,4 @@ pub mod Pieces
 pub mod States
 pub mod Ends
 pub mod Streams
+pub mod VolumeRuns

@@ -3,6 +3,7 @@
 //! schedule and count its run, are handed on. `docs/PROTOCOL.md`, "Schedules" and "The report".
 #![tactic(auto)]
 
+ghost use Rattle.st_replay.specs.VolumeRuns.{EveryScheduleRunsInTheVolume};
 ghost use Rattle.st_runs.specs.Safe.{EveryScheduleRunsSafely};
 
 mod fault;
@@ -29,4 +30,11 @@ pub use st_world::World;
 /// which the promises speak.
 pub fn schedules_run_safely()
     ensures { EveryScheduleRunsSafely }
+{}
+
+/// Every schedule runs in the volume: if its first line is read as a head, the run of the events
+/// after that head, up to the first that is refused, is a run of the volume. What applications see
+/// of it is what they see of one sequential file system. `docs/PROTOCOL.md`, "The volume".
+pub fn schedules_run_in_the_volume()
+    ensures { EveryScheduleRunsInTheVolume }
 {}

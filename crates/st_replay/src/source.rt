@@ -3,6 +3,7 @@ ghost use Rattle.std.specs.Prelude.{◌≡◌, IfOk, IfSome};
 ghost use Rattle.std.specs.Io.KnownBytes.{IsAtEnd};
 ghost use Rattle.st_rules.specs.Events as rules;
 ghost use Rattle.st_replay.specs.Ends.{Completes, HasCauses, IsCutOff, OnRead, Reports};
+ghost use Rattle.st_replay.specs.VolumeRuns.{RunsInTheVolume};
 ghost use Rattle.st_runs.specs.Replay.{replay_of};
 ghost use Rattle.st_runs.specs.Safe.{RunsSafely};
 ghost use Rattle.st_runs.specs.Schedule.{lines_of};
@@ -11,8 +12,8 @@ use crate::fault::ReplayFault;
 use crate::pieces::feed;
 use crate::player::Player;
 use crate::report_end::finish;
-use crate::schedules_run_safely;
 use crate::sinks::{flush, refuse};
+use crate::{schedules_run_in_the_volume, schedules_run_safely};
 use st_link::{Sink, Source};
 use st_rules::Summary;
 use st_world::World;
@@ -45,8 +46,11 @@ pub fn replay<I: Source, O: Sink>(
     ensures complete { IfSome (I.left input.old) (λ bytes. Completes result (replay_of bytes).last) }
     // The run of which the report tells is safe: every step of it keeps every promise.
     ensures safe { IfSome (I.left input.old) (λ bytes. RunsSafely (lines_of bytes)) }
+    // And it is a run of the volume.
+    ensures volume { IfSome (I.left input.old) (λ bytes. RunsInTheVolume (lines_of bytes)) }
 {
     schedules_run_safely();
+    schedules_run_in_the_volume();
     let mut player = Player::new(alloc);
     let mut held = Vec::new(alloc);
     let mut room = [0u8; 4096];

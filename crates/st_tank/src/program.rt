@@ -2,6 +2,7 @@
 // ends with.
 ghost use Rattle.std.specs.Prelude.{◌≡◌, IfSome};
 ghost use Rattle.st_promises.specs.Safe.{IsAllPromised};
+ghost use Rattle.st_replay.specs.VolumeRuns.{RunsInTheVolume};
 ghost use Rattle.st_runs.specs.Safe.{RunsSafely};
 ghost use Rattle.st_runs.specs.Schedule.{lines_of};
 ghost use Rattle.st_tank.specs.Jobs.{Does, IsExplained, IsRefused, GetsText};
@@ -18,7 +19,7 @@ use st_clock::Clock;
 use st_link::{Link, Sink, Source, put_all};
 use st_replay::{
     ReplayFault, Summary, WorkFault, World, all_is_promised, generate, put_work, replay,
-    schedules_run_safely,
+    schedules_run_in_the_volume, schedules_run_safely,
 };
 use st_script::ScriptFault;
 use st_script_containers::{move_containers, snap};
@@ -162,9 +163,13 @@ pub fn run<I: Source, O: Sink, E: Sink, L: Link, C: Clock>(
     // The run of which the report tells is safe: every step of it keeps every promise. Old messages
     // change nothing, in any run.
     ensures safe { IfSome (I.left input.old) (λ bytes. RunsSafely (lines_of bytes)) }
+    // It is a run of the volume: what applications see of it is what they see of one sequential
+    // file system.
+    ensures volume { IfSome (I.left input.old) (λ bytes. RunsInTheVolume (lines_of bytes)) }
     ensures promised { IsAllPromised }
 {
     schedules_run_safely();
+    schedules_run_in_the_volume();
     all_is_promised();
     match job_of(words) {
         None => refuse(err),

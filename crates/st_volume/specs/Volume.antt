@@ -82,9 +82,6 @@ is_ask_at s a = (server_of a.ask).0 == s.0
 
 -- One reply may answer several asks of a client for one file or one page: an ask that comes while
 -- another one is open shares what that one noticed.
-abbrev pub is_missed_for : FileId → Pending → Bool
-is_missed_for f a = same_file (file_of a.ask) f && a.missed
-
 abbrev pub is_full_for : Ask → Pending → Bool
 is_full_for ask a = a.full && is_any (λ x. is_at x a.ask) (place_of ask)
 
@@ -199,7 +196,7 @@ new_ask v c ask =
       op = length (filter (λ x. x.0.0 == c.0) v.asked) + 1;
       ask = ask;
       result = None;
-      missed = list_any (is_missed_for (file_of ask)) (open_of v c);
+      missed = list_any (λ a. same_file (file_of a.ask) (file_of ask) && a.missed) (open_of v c);
       full = list_any (is_full_for ask) (open_of v c);
       other = false;
       faults = [];
@@ -456,19 +453,15 @@ tells v i test =
 
 -- A step of the volume, if it may be taken. After an entry joined the log its line comes next.
 abbrev pub acts : Volume → VolumeStep → Option Volume
-acts v (steps.Asked c ask) =
-    if nat_le (length (open_of v c)) 16 then Some (notice (arrived v c ask)) else None
-acts v (steps.TakesEffect c op) =
-    option_map notice (option_and_then (takes v) (find (is_ask c op) (v.pending ++ v.orphans)))
-acts v (steps.Answered c op answer) =
-    option_and_then (answered v answer) (find (is_ask c op) v.pending)
+acts v (steps.Asked c ask) = if nat_le (length (open_of v c)) 16 then Some (notice (arrived v c ask)) else None
+acts v (steps.TakesEffect c op) = option_map notice (option_and_then (takes v) (find (is_ask c op) (v.pending ++ v.orphans)))
+acts v (steps.Answered c op answer) = option_and_then (answered v answer) (find (is_ask c op) v.pending)
 acts v (steps.Hardened i) = with_fate v i (λ e. true) fates.Hard
 acts v (steps.Dropped i cause) = with_fate v i (is_cause cause) fates.Dropped
 acts v (steps.Crashed c) = Some (crashed v c)
 acts v (steps.Restarted s) = Some (restarted v s)
 acts v (steps.WriteFailed c number i) =
-    option_map (failed v c number i)
-    (option_and_then (λ e. place_of e.what) (numbered v.log i))
+    option_map (failed v c number i) (option_and_then (λ e. place_of e.what) (numbered v.log i))
 acts v (steps.ReadFailed c s number) = Some (failing v c number (is_read_of s))
 acts v (steps.Joined i c what) = None
 

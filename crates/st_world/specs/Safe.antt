@@ -1,7 +1,8 @@
--- Worlds to which safe runs lead.
+-- Worlds to which safe runs lead, and runs of the volume.
 use Rattle.std.specs.Prelude.{ℕ, List, [], ◌∷◌, ◌++◌}
 use Rattle.st_base.specs.declared.config.Config.{Config}
 use Rattle.st_messages.specs.declared.event.Event.{Event}
+use Rattle.st_laws_volume.specs.VolumeRuns.{IsRunOfTheVolume}
 use Rattle.st_promises.specs.Safe.{IsSafeRun}
 use Rattle.st_rules.specs.World.{World, fresh_world}
 use Rattle.st_world.specs.ReachedWorlds.{IsReached, IsReachedBy}
@@ -24,3 +25,10 @@ GoesOnSafely w e =
     (k : Config) (clients servers disks blocks form : ℕ) (es : List Event)
     → IsReachedBy k clients servers disks blocks form es w
     → IsSafeRun (fresh_world k clients servers disks blocks form) (es ++ e ∷ [])
+
+-- every run that leads to this world is a run of the volume when this event follows, whether it is refused or not
+abbrev pub GoesOnInTheVolume : World → Event → Type 0
+GoesOnInTheVolume w e =
+    (k : Config) (clients servers disks blocks form : ℕ) (es : List Event)
+    → IsReachedBy k clients servers disks blocks form es w
+    → IsRunOfTheVolume (fresh_world k clients servers disks blocks form) (es ++ e ∷ [])

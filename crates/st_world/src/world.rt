@@ -7,7 +7,7 @@ ghost use Rattle.st_rules.specs.World as rules;
 ghost use Rattle.st_rules.specs.World.{fresh_world};
 ghost use Rattle.st_world_parts.specs.Pieces as pieces;
 ghost use Rattle.st_world.specs.Counters.{CountersHaveRoom};
-ghost use Rattle.st_world.specs.Safe.{GoesOnSafely, IsLedSafely};
+ghost use Rattle.st_world.specs.Safe.{GoesOnInTheVolume, GoesOnSafely, IsLedSafely};
 ghost use Rattle.st_world.specs.Steps.{StepsAs};
 
 use crate::fault::WorldFault;
@@ -68,7 +68,8 @@ impl World {
     /// Runs one event, and returns what is observed of it, in order. A refusal changes nothing. If
     /// memory runs out, nothing is known of the world, and every later step returns `Memory`:
     /// discard it. Whatever it returns, a run leads to the world that it leaves, and every run that
-    /// leads there is safe; so is every run that led to the world before, with this event after it.
+    /// leads there is safe. So is every run that led to the world before, with this event after it,
+    /// and this is a run of the volume (`docs/PROTOCOL.md`, "The volume").
     /// No counter of the world is at its end (`counters`), so an error for memory means that memory
     /// ran out.
     pub fn step(&mut self, event: Event) -> Result<Vec<Observation>, WorldFault>
@@ -79,6 +80,7 @@ impl World {
         ensures clocks { OnOk result (length self.new.clocks ≡ length self.old.clocks) }
         ensures led { IsLedSafely self.new }
         ensures safe { GoesOnSafely self.old event }
+        ensures volume { GoesOnInTheVolume self.old event }
         ensures counters { CountersHaveRoom self.old }
     {
         let parts: &mut WorldParts = &mut self.of;
@@ -105,6 +107,7 @@ impl World {
         ensures clocks { OnOk result (length self.new.clocks ≡ length self.old.clocks) }
         ensures led { IsLedSafely self.new }
         ensures safe { GoesOnSafely self.old event.now }
+        ensures volume { GoesOnInTheVolume self.old event.now }
         ensures counters { CountersHaveRoom self.old }
     {
         let parts: &mut WorldParts = &mut self.of;

@@ -3,6 +3,7 @@ use Rattle.std.specs.Io.KnownBytes.{Consumes, IsAtEnd}
 use Rattle.st_runs.proofs.Known.{if_known}
 use Rattle.st_replay.proofs.Reported.{all_completes, refused_everywhere, reported}
 use Rattle.st_replay.proofs.Streams.{cut_off, cut_short, halted, nothing_begun, nothing_taken, piece_more, so_far, text_written}
+use Rattle.st_replay.proofs.VolumeRuns.{known_runs_in_the_volume}
 use Rattle.st_replay.proofs.source.replay.Goals as goal
 
 -- nothing was read
@@ -33,6 +34,9 @@ returns-in_default-clause-read g c =
 pub returns-in_default-clause-safe : goal.returns-in_default-clause-safe
 returns-in_default-clause-safe g c = if_known (g.I.Source.left c.args.input.now) c.schedules_run_safely.ensures
 
+pub returns-in_default-clause-volume : goal.returns-in_default-clause-volume
+returns-in_default-clause-volume g c = known_runs_in_the_volume (g.I.Source.left c.args.input.now) c.schedules_run_in_the_volume.ensures
+
 -- the source is at its end
 
 pub returns-then-n-eq0-clause-report : goal.returns-then-n-eq0-clause-report
@@ -57,6 +61,9 @@ returns-then-n-eq0-clause-complete g c =
 pub returns-then-n-eq0-clause-safe : goal.returns-then-n-eq0-clause-safe
 returns-then-n-eq0-clause-safe g c = if_known (g.I.Source.left c.args.input.now) c.schedules_run_safely.ensures
 
+pub returns-then-n-eq0-clause-volume : goal.returns-then-n-eq0-clause-volume
+returns-then-n-eq0-clause-volume g c = known_runs_in_the_volume (g.I.Source.left c.args.input.now) c.schedules_run_in_the_volume.ensures
+
 -- a line was refused
 
 pub returns-in-Err-clause-report : goal.returns-in-Err-clause-report
@@ -78,6 +85,9 @@ returns-in-Err-clause-complete g c =
 pub returns-in-Err-clause-safe : goal.returns-in-Err-clause-safe
 returns-in-Err-clause-safe g c = if_known (g.I.Source.left c.args.input.now) c.schedules_run_safely.ensures
 
+pub returns-in-Err-clause-volume : goal.returns-in-Err-clause-volume
+returns-in-Err-clause-volume g c = known_runs_in_the_volume (g.I.Source.left c.args.input.now) c.schedules_run_in_the_volume.ensures
+
 -- a write failed
 
 pub returns-in-Err-flush-clause-report : goal.returns-in-Err-flush-clause-report
@@ -94,6 +104,9 @@ returns-in-Err-flush-clause-report g c =
 
 pub returns-in-Err-flush-clause-safe : goal.returns-in-Err-flush-clause-safe
 returns-in-Err-flush-clause-safe g c = if_known (g.I.Source.left c.args.input.now) c.schedules_run_safely.ensures
+
+pub returns-in-Err-flush-clause-volume : goal.returns-in-Err-flush-clause-volume
+returns-in-Err-flush-clause-volume g c = known_runs_in_the_volume (g.I.Source.left c.args.input.now) c.schedules_run_in_the_volume.ensures
 
 -- a piece more was played, and its text written
 

@@ -1,4 +1,5 @@
 use Rattle.std.proofs.Common.{◌∙◌, refl, subst}
+use Rattle.st_replay.proofs.VolumeRuns.{known_runs_in_the_volume}
 use Rattle.st_runs.proofs.Known.{if_known}
 use Rattle.st_tank.specs.Jobs.{Does}
 use Rattle.st_tank.specs.Uses.{clock_use, link_use, stream_use}
@@ -55,17 +56,35 @@ returns-in-Some-Work-clause-does g c =
 pub returns-in-None-clause-safe : goal.returns-in-None-clause-safe
 returns-in-None-clause-safe g c = if_known (g.I.Source.left c.args.input.now) c.schedules_run_safely.ensures
 
+pub returns-in-None-clause-volume : goal.returns-in-None-clause-volume
+returns-in-None-clause-volume g c = known_runs_in_the_volume (g.I.Source.left c.args.input.now) c.schedules_run_in_the_volume.ensures
+
 pub returns-in-Some-Replay-clause-safe : goal.returns-in-Some-Replay-clause-safe
 returns-in-Some-Replay-clause-safe g c = if_known (g.I.Source.left c.args.input.now) c.schedules_run_safely.ensures
+
+pub returns-in-Some-Replay-clause-volume : goal.returns-in-Some-Replay-clause-volume
+returns-in-Some-Replay-clause-volume g c = known_runs_in_the_volume (g.I.Source.left c.args.input.now) c.schedules_run_in_the_volume.ensures
 
 pub returns-in-Some-Script-clause-safe : goal.returns-in-Some-Script-clause-safe
 returns-in-Some-Script-clause-safe g c = if_known (g.I.Source.left c.args.input.now) c.schedules_run_safely.ensures
 
+pub returns-in-Some-Script-clause-volume : goal.returns-in-Some-Script-clause-volume
+returns-in-Some-Script-clause-volume g c = known_runs_in_the_volume (g.I.Source.left c.args.input.now) c.schedules_run_in_the_volume.ensures
+
 pub returns-in-Some-Generate-clause-safe : goal.returns-in-Some-Generate-clause-safe
 returns-in-Some-Generate-clause-safe g c = if_known (g.I.Source.left c.args.input.now) c.schedules_run_safely.ensures
+
+pub returns-in-Some-Generate-clause-volume : goal.returns-in-Some-Generate-clause-volume
+returns-in-Some-Generate-clause-volume g c = known_runs_in_the_volume (g.I.Source.left c.args.input.now) c.schedules_run_in_the_volume.ensures
 
 pub returns-in-Some-Work-clause-safe : goal.returns-in-Some-Work-clause-safe
 returns-in-Some-Work-clause-safe g c = if_known (g.I.Source.left c.args.input.now) c.schedules_run_safely.ensures
 
+pub returns-in-Some-Work-clause-volume : goal.returns-in-Some-Work-clause-volume
+returns-in-Some-Work-clause-volume g c = known_runs_in_the_volume (g.I.Source.left c.args.input.now) c.schedules_run_in_the_volume.ensures
+
 pub returns-in-Some-Node-clause-safe : goal.returns-in-Some-Node-clause-safe
 returns-in-Some-Node-clause-safe g c = if_known (g.I.Source.left c.args.input.now) c.schedules_run_safely.ensures
+
+pub returns-in-Some-Node-clause-volume : goal.returns-in-Some-Node-clause-volume
+returns-in-Some-Node-clause-volume g c = known_runs_in_the_volume (g.I.Source.left c.args.input.now) c.schedules_run_in_the_volume.ensures
