@@ -1,21 +1,11 @@
 -- The bytes of a journal's file have one file, and one area that counts.
-use Rattle.std.proofs.Common.{◌≡◌, ℕ, ◌+◌, ◌*◌, Bool, true, false, List, [], ◌∷◌, ◌++◌, length, take, drop, Option, Some, None, Result, Ok, Err, refl, sym, ap, ◌∙◌, subst, append_assoc, arith}
+use Rattle.std.proofs.Common.{◌≡◌, ℕ, ◌+◌, ◌*◌, Bool, true, false, List, [], ◌∷◌, ◌++◌, length, take, drop, refl, sym, ap, ◌∙◌, subst, append_assoc, arith}
 use Rattle.std.proofs.lemmas.List.{append_cancel_left, drop_at, take_at}
 use Rattle.st_journal_file.specs.Layout.{File, area_of}
 use Rattle.st_journal_bytes.specs.Files.{IsMadeFile, file_bytes}
 use Rattle.st_journal_bytes.specs.declared.file.Current.{Current}
-use Rattle.st_journal_bytes.specs.declared.file.FileFault.{FileFault}
 use Rattle.st_journal_bytes.specs.declared.header.Identity.{Identity}
-use Rattle.st_journal_bytes.proofs.MadeFiles.{made_is_opened}
-
-abbrev found : Current → Result (Option Current) FileFault
-found c = Ok (Some c)
-
-found_is : (c d : Current) → found c ≡ found d → c ≡ d
-found_is c d e = cc
-
-pub one_current : (bytes : List ℕ) (i : Identity) (c d : Current) → IsMadeFile bytes i c → IsMadeFile bytes i d → c ≡ d
-one_current bytes i c d m n = found_is c d (made_is_opened bytes i (found c) d m tt tt n)
+use Rattle.st_journal_bytes.proofs.MadeFiles as files
 
 -- equal lists whose first parts have one length have equal parts
 
@@ -63,7 +53,7 @@ one_file bytes i c m n =
 -- the same, of two readings
 pub same_file : (bytes : List ℕ) (i : Identity) (c d : Current) (m : IsMadeFile bytes i c) (n : IsMadeFile bytes i d) → m.file ≡ n.file
 same_file bytes i c d m n =
-    subst (λ (x : Current). (k : IsMadeFile bytes i x) → m.file ≡ k.file) (one_current bytes i c d m n) (λ k. one_file bytes i c m k) n
+    subst (λ (x : Current). (k : IsMadeFile bytes i x) → m.file ≡ k.file) (files.one_file bytes i c d m n) (λ k. one_file bytes i c m k) n
 
 -- how many bytes an area has
 pub size_by : (second : Bool) (b : File) (n : ℕ) → length b.first ≡ n → length b.second ≡ n → length (area_of second b) ≡ n

@@ -41,7 +41,8 @@ use Rattle.st_kept_histories.specs.Opened.{Opens, keeper_of, stable_in}
 use Rattle.st_kept_histories.specs.declared.stage.Stage.TheVariants as stages
 use Rattle.st_kept_histories.proofs.Beside as beside
 use Rattle.st_kept_histories.proofs.Changed.{F, made_is_changed, one_more, state_after, sum}
-use Rattle.st_kept_histories.proofs.Files.{one_current, same_file, size_by}
+use Rattle.st_journal_bytes.proofs.MadeFiles as files
+use Rattle.st_kept_histories.proofs.Files.{same_file, size_by}
 
 -- An area of stable parts and changes, as bytes.
 
@@ -91,7 +92,7 @@ module _ (i : Identity) (k : Keeps (shape_of i)) (start : Dated (State (shape_of
   resting = subst (λ (q : Phase (Dated (State s)) (Dated RangedChange)). HoldsIn (F s k) start header q p) h.idle (reached (F s k) start header p r)
 
   second : file.current.second ≡ p.current
-  second = ap (λ (c : Current). c.second) (one_current bytes i file.current h.current o.opens.opens.made h.made) ∙ h.second
+  second = ap (λ (c : Current). c.second) (files.one_file bytes i file.current h.current o.opens.opens.made h.made) ∙ h.second
 
   same_area : area_of file.current.second o.opens.opens.made.file ≡ area
   same_area =

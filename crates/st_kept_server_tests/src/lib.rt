@@ -1,0 +1,6 @@
+//! A server whose changes are kept in groups, over a file in memory: a file is made, and a server
+//! is opened on it.
+#![tactic(auto)]
+
+#[cfg(test)]
+mod openings;

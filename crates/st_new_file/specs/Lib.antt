@@ -1,0 +1,2 @@
+-- What the contracts of `st_new_file` cite.
+pub mod NewFile
