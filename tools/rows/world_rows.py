@@ -110,7 +110,7 @@ FILES = {
     ],
     "world_asks": [
         ("schedules/rules/no-file", "no_file", "A server that is not there and an inode that isn't a file have no files."),
-        ("schedules/rules/not-the-holder", "not_the_holder", "A remove of an entry that is another file than the asker means is refused."),
+        ("schedules/rules/not-the-holder", "not_the_holder", "A remove is refused if the entry is not the file that the asker means."),
         ("schedules/rules/directories", "directories", "Directories are made, filled, listed and removed; one with entries is not removed."),
         ("schedules/rules/lowered-demand", "lowered_demand", "A demand is repeated on a tick and lowered when its waiter wants more; the lock is given up in two steps."),
     ],

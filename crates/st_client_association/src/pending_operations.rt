@@ -42,7 +42,8 @@ impl<'a> Test<Operation> for HardSync<'a> {
     }
 }
 
-/// Answers the syncs at a server of files that are hard there, in order; they are no longer pending.
+/// Answers the syncs at a server of files that are hard there, in order. They are no longer
+/// pending.
 fn answer_hard(
     server: ServerId,
     store: &Store,

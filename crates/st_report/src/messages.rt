@@ -6,8 +6,8 @@ use crate::words::{put_field, put_party, put_text};
 use st_messages::Message;
 use std::alloc::AllocError;
 
-/// Appends a message. It is a function of its own for the prover, which doesn't join more texts than
-/// these at once.
+/// Appends a message. It is a function of its own for the prover, which doesn't join more texts
+/// than these at once.
 pub(crate) fn put_message(out: &mut Vec<u8>, m: &Message) -> Result<(), AllocError>
     ensures { OnOk result (out.new.items ≡ out.old.items ++ text.message m.now) }
 {

@@ -36,7 +36,7 @@ pub fn no_file()
         ∷ []) (counts 6 4 0 0 0 0 0 0) None }
 {}
 
-/// A remove of an entry that is another file than the asker means is refused.
+/// A remove is refused if the entry is not the file that the asker means.
 #[tactic(auto, unfolding(crate::specs::WorldWords::world_words_open))]
 pub fn not_the_holder()
     ensures { told (run (
