@@ -1,5 +1,5 @@
--- Write commands that are not reported are outstanding at the clients that submitted them.
-use Rattle.std.specs.Prelude.{◌≡◌, ℕ, true, List, Some}
+-- Write commands that are not reported are outstanding at the clients that submitted them, and those alone.
+use Rattle.std.specs.Prelude.{◌≡◌, ℕ, true, List, Some, None, is_some}
 use Rattle.st_base.specs.declared.disk.BlockAt.{BlockAt}
 use Rattle.st_base.specs.declared.disk.Command.TheVariants as commands
 use Rattle.st_base.specs.declared.disk.Tag.{Tag}
@@ -57,3 +57,38 @@ OpenHold w =
 -- after a step
 abbrev pub OpenAfter : Promise
 OpenAfter past x = OpenHold x.after.world
+
+-- a write command of a client, by one of its instances and in the life of an association, that is not reported
+pub record IsOut (cs : List IssuedCommand) (ds : List DiskCommand) (c : ClientId) (starts : ℕ) (a : Association) (number : ℕ) : Type 0 where
+  pub place : ℕ
+  pub command : IssuedCommand
+  pub there : numbered cs place ≡ Some command
+  pub disk : DiskCommand
+  pub on_disk : disks.command_at ds place ≡ Some disk
+  pub unreported : disk.report ≡ reports.Open
+  pub at : BlockAt
+  pub tag : Tag
+  pub bytes : List ℕ
+  pub what_is : disk.what ≡ commands.Write at tag bytes
+  pub unsampled : disk.sample ≡ None
+  pub client : command.client ≡ c
+  pub since : command.starts ≡ starts
+  pub server : command.server ≡ a.server
+  pub life : command.life ≡ a.life
+  pub number_is : command.number ≡ number
+  pub carries : is_some command.carries ≡ true
+
+-- all outstanding writes of an association are
+abbrev pub ListedOut : List IssuedCommand → List DiskCommand → ClientId → ℕ → Association → Type 0
+ListedOut cs ds c starts a =
+    (pc : PageCommand) (version : ℕ) → Has pc a.store.commands → pc.kind ≡ io.Write version → IsOut cs ds c starts a pc.number
+
+-- of all clients that run
+abbrev pub ListedHold : World → Type 0
+ListedHold w =
+    (c : ClientId) (site : WorldClient) → site_of w c ≡ Some site → site.node.running ≡ true → (a : Association) →
+    Has a site.node.state.associations → ListedOut w.commands w.disks.commands c site.starts a
+
+-- after a step
+abbrev pub ListedAfter : Promise
+ListedAfter past x = ListedHold x.after.world
