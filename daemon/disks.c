@@ -39,19 +39,19 @@ struct command {
     };
 };
 
-static struct worker { /* a thread, and the commands on its blocks, in their order */
-    GCond wake;
-    GQueue waiting;
+/* A thread, and the commands on its blocks, in their order. It has opened the disks for itself: the
+ * system tells one sync of each opened file if an earlier write fails. */
+static struct worker {
+    GAsyncQueue *waiting;
+    int files[DISKS_MOST + 1];
 } * workers;
 
-static GMutex lock;                   /* of the queues that threads use */
-static GQueue ended = G_QUEUE_INIT;   /* commands that must be reported */
+static GAsyncQueue *ended;            /* commands that must be reported */
 static int end_file;                  /* tells the loop that there are some */
 static _Atomic uint64_t under_way;    /* commands that were submitted and haven't ended */
 static _Atomic int64_t slow, failing; /* for trials */
 static struct { _Atomic uint64_t life, end; } leases[SERVERS_MOST + 1];
 
-static int files[DISKS_MOST + 1];
 static GQueue spare = G_QUEUE_INIT;          /* memory of commands that were reported */
 static uint64_t submitted[SERVERS_MOST + 1]; /* writes that haven't ended */
 
@@ -62,7 +62,7 @@ static uint32_t sum_of(const struct block *it) {
     return htobe32((uint32_t)crc32(0, (const uint8_t *)it, offsetof(struct block, sum)));
 }
 
-static bool transfer(struct command *it) {
+static bool transfer(const int *files, struct command *it) {
     static const uint8_t never[offsetof(struct block, bytes)];
     struct block *block = &it->block;
     off_t place = (off_t)(config.disk_at[it->disk] + (uint64_t)it->command.block * SLOT);
@@ -81,49 +81,51 @@ static bool transfer(struct command *it) {
 /* Does a command, if its lease lasts, and if it doesn't have to fail for a trial. The lease's end
  * is read first, and disks_lease writes it last: so if the life is then still the command's, the
  * end belongs to this life, too. */
-static void begin(struct command *it) {
+static void begin(const int *files, struct command *it) {
     bool fails = failing > 0 && atomic_fetch_sub(&failing, 1) > 0;
     if (slow) g_usleep((uint64_t)slow * 1000);
     uint64_t end = leases[it->server].end;
     it->until = leases[it->server].life == it->life ? end : 0;
     bool lasts = clock_at(clock_moment()) + config.disk_time < it->until;
     if (!lasts) count(COUNT_DISK_OVER);
-    if (!lasts || fails || !transfer(it)) return;
+    if (!lasts || fails || !transfer(files, it)) return;
     it->end = it->writes ? TANK_END_WRITTEN : TANK_END_READ;
     it->effect = clock_moment();
 }
 
 /* Syncs a disk, if commands of the batch wrote to it; if that fails, their writes failed. */
-static void sync_writes(struct command **batch, int size, uint16_t disk) {
+static void sync_writes(int file, struct command **batch, int size, uint16_t disk) {
     bool is_synced = false, fails = false;
     for (int i = 0; i < size; i++) {
         if (batch[i]->end != TANK_END_WRITTEN || batch[i]->disk != disk) continue;
-        if (!is_synced) fails = fdatasync(files[disk]);
+        if (!is_synced) fails = fdatasync(file);
         is_synced = true;
         if (fails) batch[i]->end = TANK_END_FAILED;
     }
 }
 
-static int take_batch(struct worker *it, struct command **batch) {
-    int size = 0;
-    g_mutex_lock(&lock);
-    while (!it->waiting.head) g_cond_wait(&it->wake, &lock);
-    while (size < BATCH && (batch[size] = g_queue_pop_head(&it->waiting))) size++;
-    g_mutex_unlock(&lock);
+static int take_batch(GAsyncQueue *waiting, struct command **batch) {
+    int size = 1;
+    g_async_queue_lock(waiting);
+    batch[0] = g_async_queue_pop_unlocked(waiting);
+    while (size < BATCH && (batch[size] = g_async_queue_try_pop_unlocked(waiting))) size++;
+    g_async_queue_unlock(waiting);
     return size;
 }
 
 static void *work(void *worker) {
+    const struct worker *self = worker;
     struct command *batch[BATCH];
     for (;;) {
-        int size = take_batch(worker, batch);
-        for (int i = 0; i < size; i++) begin(batch[i]);
-        for (uint16_t disk = 1; disk <= config.disks; disk++) sync_writes(batch, size, disk);
-        g_mutex_lock(&lock);
-        bool is_told = ended.head;
-        for (int i = 0; i < size; i++) g_queue_push_tail(&ended, batch[i]);
+        int size = take_batch(self->waiting, batch);
+        for (int i = 0; i < size; i++) begin(self->files, batch[i]);
+        for (uint16_t disk = 1; disk <= config.disks; disk++)
+            sync_writes(self->files[disk], batch, size, disk);
+        g_async_queue_lock(ended);
+        bool is_told = g_async_queue_length_unlocked(ended) > 0;
+        for (int i = 0; i < size; i++) g_async_queue_push_unlocked(ended, batch[i]);
+        g_async_queue_unlock(ended);
         under_way -= (uint64_t)size;
-        g_mutex_unlock(&lock);
         if (!is_told) eventfd_write(end_file, 1);
     }
     return NULL;
@@ -155,33 +157,32 @@ static void report(struct command *it) {
     if (it->writes && submitted[it->server]) submitted[it->server]--;
 }
 
-static struct command *take(GQueue *queue, bool is_ended) {
-    g_mutex_lock(&lock);
-    struct command *it = g_queue_pop_head(queue);
-    under_way -= it && !is_ended;
-    g_mutex_unlock(&lock);
-    return it;
-}
-
 /* What is reported may make the client fence itself, which drops the rest. */
 static void hear_ends(UNUSED_OF_EVENT) {
-    for (struct command *it; (it = take(&ended, true)); g_queue_push_head(&spare, it)) report(it);
+    for (struct command *it; (it = g_async_queue_try_pop(ended)); g_queue_push_head(&spare, it))
+        report(it);
+}
+
+static int open_disk(uint16_t disk) {
+    struct stat found;
+    int file = open(config.disk[disk], O_RDWR | O_CLOEXEC);
+    /* other machines write to a device, too: its blocks must not be cached here */
+    if (file < 0 || fstat(file, &found) ||
+        (S_ISBLK(found.st_mode) && fcntl(file, F_SETFL, O_DIRECT)))
+        fail("disk %d: %s: %s", disk, config.disk[disk], strerror(errno));
+    return file;
 }
 
 void disks_begin(void) {
-    for (uint16_t disk = 1; disk <= config.disks; disk++) {
-        struct stat found;
-        int file = files[disk] = open(config.disk[disk], O_RDWR | O_CLOEXEC);
-        /* other machines write to a device, too: its blocks must not be cached here */
-        if (file < 0 || fstat(file, &found) ||
-            (S_ISBLK(found.st_mode) && fcntl(file, F_SETFL, O_DIRECT)))
-            fail("disk %d: %s: %s", disk, config.disk[disk], strerror(errno));
-    }
+    ended = g_async_queue_new();
     end_file = eventfd(0, EFD_NONBLOCK | EFD_CLOEXEC); /* each write is heard, and needs no read */
     event_add(event_new(base, end_file, EV_READ | EV_PERSIST | EV_ET, hear_ends, NULL), NULL);
     workers = g_new0(struct worker, config.workers);
-    for (uint64_t i = 0; i < config.workers; i++)
-        g_thread_unref(g_thread_new("disks", work, &workers[i]));
+    for (struct worker *it = workers; it < workers + config.workers; it++) {
+        it->waiting = g_async_queue_new();
+        for (uint16_t disk = 1; disk <= config.disks; disk++) it->files[disk] = open_disk(disk);
+        g_thread_unref(g_thread_new("disks", work, it));
+    }
 }
 
 void disks_submit(const uint8_t *frame, size_t size) {
@@ -203,12 +204,8 @@ void disks_submit(const uint8_t *frame, size_t size) {
     it->life = leases[it->server].life;
     submitted[it->server] += it->writes;
     /* commands on one block are done one after another, in this order */
-    struct worker *worker = &workers[(it->disk + it->command.block / RUN) % config.workers];
-    g_mutex_lock(&lock);
-    g_queue_push_tail(&worker->waiting, it);
     under_way++;
-    g_mutex_unlock(&lock);
-    g_cond_signal(&worker->wake);
+    g_async_queue_push(workers[(it->disk + it->command.block / RUN) % config.workers].waiting, it);
 }
 
 void disks_lease(uint16_t server, uint64_t life, uint64_t end) {
@@ -221,9 +218,10 @@ bool disks_write(uint16_t server) { return submitted[server]; }
 void disks_drop(void) {
     struct command *it;
     for (uint64_t i = 0; i < config.workers; i++)
-        while ((it = take(&workers[i].waiting, false))) g_queue_push_head(&spare, it);
+        for (; (it = g_async_queue_try_pop(workers[i].waiting)); under_way--)
+            g_queue_push_head(&spare, it);
     while (under_way) g_usleep(100); /* this is rare */
-    for (; (it = take(&ended, true)); g_queue_push_head(&spare, it))
+    for (; (it = g_async_queue_try_pop(ended)); g_queue_push_head(&spare, it))
         if (it->effect) report(it);
     memset(submitted, 0, sizeof submitted);
 }
