@@ -8,6 +8,7 @@ struct config config = {.clients = CLIENTS_MOST,
                         .workers = 4,
                         .log = LEVEL_NOTICE,
                         .hold = 20,
+                        .disk_time = UINT64_MAX,
                         .mount_server = 1};
 
 enum { WORDS_MOST = 5 };
@@ -190,6 +191,15 @@ static void check_whole(void) {
     check_settings();
 }
 
+static void note_whole(void) {
+    const struct tank_settings *it = &config.settings;
+    if (config.disk_time == UINT64_MAX) config.disk_time = (it->lease - it->flush) / 4;
+    config.common =
+        g_strdup_printf("%lu %lu %lu %lu %lu %lu %lu %lu %lu %lu %lu %lu", it->lease, it->renew,
+                        it->quiesce, it->flush, it->demand, it->retry, it->num, it->den, it->grain,
+                        config.servers, config.disks, config.blocks);
+}
+
 void config_read(const char *path) {
     g_autofree char *text = NULL;
     g_autoptr(GError) fault = NULL;
@@ -198,4 +208,5 @@ void config_read(const char *path) {
     char *rest = text;
     for (line = 1; rest; line++) read_line(strsep(&rest, "\n"));
     check_whole();
+    note_whole();
 }

@@ -76,30 +76,31 @@ uint64_t clock_at(uint64_t moment) { return added + ahead_of(moment) / MILLISECO
 
 uint64_t clock_told(uint64_t moment) { return config.elsewhere ? ahead_of(moment) : moment; }
 
-static void keep_clock(uint64_t reading) {
-    ceiling = reading + AHEAD;
-    g_autofree char *text = g_strdup_printf("%s %lu %lu\n", boot, added, ceiling);
+static void keep_clock(uint64_t greatest) {
+    ceiling = greatest;
+    g_autofree char *text =
+        g_strdup_printf("%s %lu %lu\n%s\n", boot, added, ceiling, config.common);
     keep_text("clock", text);
 }
 
 uint64_t clock_for_step(uint64_t moment) {
     uint64_t reading = clock_at(moment);
-    if (reading + MARGIN > ceiling) keep_clock(reading);
+    if (reading + MARGIN > ceiling) keep_clock(reading + AHEAD);
     return reading;
 }
 
 /* A machine's clock begins again with the machine; the node's goes on from what was kept. */
 static void begin_clock(void) {
-    g_autofree char *path = path_of("clock"), *text = NULL;
+    g_autofree char *path = path_of("clock"), *text = read_text(path);
     char of[64];
-    boot = g_strstrip(read_text("/proc/sys/kernel/random/boot_id"));
-    if (!access(path, F_OK)) {
-        text = read_text(path);
-        if (sscanf(text, "%63s %lu %lu", of, &added, &ceiling) != 3)
-            fail("%s: this isn't a clock", path);
-        if (strcmp(of, boot)) added = ceiling;
-    }
-    keep_clock(clock_at(clock_moment()));
+    int end = 0;
+    if (sscanf(text, "%63s %lu %lu %n", of, &added, &ceiling, &end) != 3)
+        fail("%s: this isn't a clock", path);
+    if (strcmp(g_strchomp(text + end), config.common))
+        fail("%s: the node was made with the settings, servers, disks and blocks \"%s\", which "
+             "must stay, and not with \"%s\"",
+             path, text + end, config.common);
+    if (strcmp(of, boot)) added = ceiling;
 }
 
 /* A client's lives */
@@ -164,6 +165,7 @@ bool keep_has(uint64_t moment) {
 /* A second process would use the same lives or the same journal. The file stays open, and the lock
  * with it. */
 static void lock(void) {
+    boot = g_strstrip(read_text("/proc/sys/kernel/random/boot_id"));
     if (flock(open_kept("lock", O_RDWR | O_CREAT), LOCK_EX | LOCK_NB))
         fail("another process runs this node");
 }
@@ -172,6 +174,7 @@ void keep_create(void) {
     g_autofree char *path = path_of(config.is_server ? "journal" : "lives");
     lock();
     if (!access(path, F_OK)) fail("%s exists: this node was started before", path);
+    keep_clock(0);
     lives.asks = 1;
     if (!config.is_server) return lives_keep();
     int file = open_kept("new", O_RDWR | O_CREAT | O_TRUNC);

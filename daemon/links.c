@@ -1,11 +1,13 @@
 /* links.c: the connections to other nodes. A client connects to each server, and a server accepts
- * clients; frames go both ways. A connection begins with eight bytes that name the client's node:
- * "tank", the version 1 in two bytes, and the node in two bytes, the highest first. */
+ * clients; frames go both ways. A connection begins with sixteen bytes: "tank", the version 2 in
+ * two bytes, the client's node in two bytes, the highest first, and the sum of what all nodes have
+ * in common. */
 #include "tankd.h"
 #include <string.h>
 
 enum {
-    GREETING = 8,
+    GREETING = 16,
+    NAME = 8,               /* bytes of it before the sum */
     WAITING_MOST = 1 << 20, /* bytes that wait for a node that doesn't read */
     AGAIN = 300,            /* milliseconds until a connection is tried again */
     STRANGERS_MOST = 64,    /* connections whose peer hasn't named itself yet */
@@ -34,14 +36,32 @@ uint16_t node_of_word(const char *word) {
     return 0;
 }
 
+/* What the connection of a client begins with. A client whose lease is longer than its server
+ * believes would break the promises, so the sum is a part of it: the first bytes of a SHA-256. */
+static void write_greeting(uint16_t node, uint8_t at[GREETING]) {
+    uint8_t sum[32];
+    size_t size = sizeof sum;
+    g_autoptr(GChecksum) it = g_checksum_new(G_CHECKSUM_SHA256);
+    g_checksum_update(it, (const uint8_t *)config.common, -1);
+    g_checksum_get_digest(it, sum, &size);
+    memcpy(at, (const uint8_t[NAME]){'t', 'a', 'n', 'k', 0, 2, 0, (uint8_t)node}, NAME);
+    memcpy(at + NAME, sum, GREETING - NAME);
+}
+
 /* The peer of a server's connection names itself; whether it is a client. A newer connection
  * replaces an older one. */
 static bool greet(struct stream *it, const uint8_t *at) {
-    uint16_t node = (uint16_t)(at[6] << 8 | at[7]);
-    bool is_client = !memcmp(at, "tank\0\1", 6) && node >= 1 && node <= config.clients;
-    if (!is_client || !stream_is(it, word_of_node(node))) {
-        stream_refuse(it, is_client ? "its certificate doesn't name the client"
-                                    : "it doesn't begin as a client's");
+    uint16_t node = at[NAME - 1];
+    uint8_t expected[GREETING];
+    write_greeting(node, expected);
+    const char *fault = NULL;
+    if (memcmp(at, expected, NAME) || node < 1 || node > config.clients)
+        fault = "it doesn't begin as a client's";
+    else if (!stream_is(it, word_of_node(node))) fault = "its certificate doesn't name the client";
+    else if (memcmp(at, expected, GREETING))
+        fault = "the client has other settings, servers, disks or blocks";
+    if (fault) {
+        stream_refuse(it, fault);
         return false;
     }
     if (links[node]) stream_drop(links[node]);
@@ -81,7 +101,8 @@ static const struct kind kind = {
 
 /* A client connects to each server to which it isn't connected. */
 static void connect_links(UNUSED_OF_EVENT) {
-    const uint8_t greeting[GREETING] = {'t', 'a', 'n', 'k', 0, 1, 0, (uint8_t)config.node};
+    uint8_t greeting[GREETING];
+    write_greeting(config.node, greeting);
     for (uint16_t number = 1; number <= config.servers; number++) {
         if (links[number]) continue;
         links[number] = stream_connect(&kind, &config.server[number], TANK_SERVER_NODE(number));

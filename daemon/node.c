@@ -4,11 +4,11 @@
  *
  *   Lives before frames: step and begin_client keep them; give_all comes later.
  *   The record, then the gate, then the frames: keep_record, before give_all.
- *   A journal's disk, and one journal for each server: keep.c.
+ *   A journal's disk, and one journal for each server, with the same settings and shape: keep.c.
  *   One clock for each node, which never falls: keep.c.
  *   The clocks' rates: keep.c. CLOCK_BOOTTIME counts while the machine sleeps.
  *   The reading is taken when the step is taken: node_take.
- *   Ticks, and a flush that was missed: tick, set_tick, is_flush_missed, fence.
+ *   Ticks, and a flush that was missed: tick, tick_time, set_tick, is_flush_missed, fence.
  *   Disk commands in time, and disks of blocks: disks.c.
  *   An ask's number is used once: asks.c, new_op.
  *   Frames arrive as they were sent, and `from` is that of the peer: links.c, node_hear.
@@ -22,7 +22,7 @@
 #include <string.h>
 
 enum {
-    TICK = 100,    /* milliseconds */
+    TICK = 100,    /* milliseconds at most */
     BODY = 4 + 38, /* where the body of a message begins in its frame ("Wire") */
     FLUSH = 4,     /* a phase of a lease */
 };
@@ -212,13 +212,20 @@ static uint32_t step(uint64_t moment, uint64_t now, const uint8_t *frame, size_t
 /* A step that wasn't taken: the frame counts as lost, unless the node can't go on. */
 static void note_untaken(uint32_t result) {
     static bool is_said;
-    if (result >= TANK_CUT && result <= TANK_TOO_LONG) count(COUNT_FRAMES_BAD);
-    else if (result != TANK_JOURNAL_FULL && result != TANK_NO_MEMORY) must(result);
-    if (result != TANK_JOURNAL_FULL) return;
+    if (result >= TANK_CUT && result <= TANK_TOO_LONG) {
+        count(COUNT_FRAMES_BAD);
+        return;
+    }
+    if (result != TANK_JOURNAL_FULL) must(result);
     count(COUNT_JOURNAL_FULL);
     if (!is_said)
         say(LEVEL_ERROR, "the journal is full: nothing that changes names or extents is served");
     is_said = true;
+}
+
+/* The time between two ticks of a client: at least one comes in the flush phase of each lease. */
+static uint64_t tick_time(void) {
+    return CLAMP((config.settings.lease - config.settings.flush) / 2, 1, TICK);
 }
 
 /* A server gets its next tick when it is due. If it can't be asked, it gets one soon. */
@@ -350,7 +357,7 @@ void node_begin(void) {
     if (!config.is_server) disks_begin();
     if (config.is_server) begin_server();
     else begin_client();
-    if (!config.is_server) event_add(ticks, &(struct timeval){0, TICK * 1000});
+    if (!config.is_server) event_add(ticks, &(struct timeval){0, (suseconds_t)tick_time() * 1000});
 }
 
 void node_end(void) {

@@ -13,8 +13,9 @@
 #include <sys/un.h>
 
 enum {
-    OUT_MOST = 4 << 20, /* while more bytes wait to be sent, nothing is read */
-    WAITING = 64,       /* connections that wait to be accepted */
+    OUT_MOST = 4 << 20,    /* while more bytes wait to be sent, nothing is read */
+    WAITING = 64,          /* connections that wait to be accepted */
+    PATIENCE_MOST = 60000, /* milliseconds */
     HOST_FLAGS = X509_CHECK_FLAG_NO_WILDCARDS | X509_CHECK_FLAG_NEVER_CHECK_SUBJECT,
 };
 
@@ -113,7 +114,7 @@ void streams_flush(void) {
 /* A client expects the server of this name; a server's peer names itself later. */
 static struct stream *open_stream(const struct kind *kind, int file, bool is_unix,
                                   const char *expected) {
-    const int one = 1, state = expected ? BUFFEREVENT_SSL_CONNECTING : BUFFEREVENT_SSL_ACCEPTING;
+    const int state = expected ? BUFFEREVENT_SSL_CONNECTING : BUFFEREVENT_SSL_ACCEPTING;
     bool is_tls = kind->is_of_nodes && !is_unix && !config.is_insecure;
     struct stream *it = g_new0(struct stream, 1);
     it->kind = kind;
@@ -121,7 +122,6 @@ static struct stream *open_stream(const struct kind *kind, int file, bool is_uni
     it->tls = is_tls ? SSL_new(context) : NULL;
     if (is_tls) SSL_set_hostflags(it->tls, HOST_FLAGS);
     if (expected && is_tls && SSL_set1_host(it->tls, expected) != 1) fail("out of memory");
-    if (!is_unix) setsockopt(file, IPPROTO_TCP, TCP_NODELAY, &one, sizeof one);
     it->pipe =
         is_tls ? bufferevent_openssl_socket_new(base, file, it->tls, state, BEV_OPT_CLOSE_ON_FREE)
                : bufferevent_socket_new(base, file, BEV_OPT_CLOSE_ON_FREE);
@@ -132,9 +132,19 @@ static struct stream *open_stream(const struct kind *kind, int file, bool is_uni
     return it;
 }
 
+/* What isn't acknowledged within a lease is of no use, and a new connection is made sooner than an
+ * old one tries again. */
+static void set_up_tcp(int file) {
+    const int one = 1, patience = (int)MIN(config.settings.lease, PATIENCE_MOST);
+    setsockopt(file, IPPROTO_TCP, TCP_NODELAY, &one, sizeof one);
+    setsockopt(file, IPPROTO_TCP, TCP_SYNCNT, &one, sizeof one);
+    setsockopt(file, IPPROTO_TCP, TCP_USER_TIMEOUT, &patience, sizeof patience);
+}
+
 int socket_connect(const struct address *address) {
     int file = socket(address->place.ss_family, SOCK_STREAM | SOCK_NONBLOCK | SOCK_CLOEXEC, 0);
     const struct sockaddr *place = (const struct sockaddr *)&address->place;
+    if (place->sa_family != AF_UNIX) set_up_tcp(file);
     if (file < 0 || !connect(file, place, address->size) || errno == EINPROGRESS) return file;
     close(file);
     return -1;
@@ -161,6 +171,7 @@ static void accept_stream(G_GNUC_UNUSED struct evconnlistener *from, int file,
         if (it->pipe && it->kind == kind && !it->peer) oldest = it, found++;
     }
     if (found >= ((const struct kind *)kind)->most) stream_drop(oldest);
+    if (place->sa_family != AF_UNIX) set_up_tcp(file);
     open_stream(kind, file, place->sa_family == AF_UNIX, NULL);
 }
 

@@ -29,6 +29,7 @@ extern struct config {
     uint16_t node, number;         /* in the protocol, and among clients or servers */
     struct tank_settings settings; /* in milliseconds */
     uint64_t clients, servers, disks, blocks;
+    const char *common; /* the settings, servers, disks and blocks: the same at each node, always */
     struct address server[SERVERS_MOST + 1]; /* by number, from 1 */
     char *disk[DISKS_MOST + 1];              /* the path of a file or device, and */
     uint64_t disk_at[DISKS_MOST + 1];        /* the byte at which the disk begins there */
@@ -66,7 +67,7 @@ void hook_run(const char *event, uint16_t client);
 
 /* keep.c: what outlives a crash of the node, in files of the folder `state`, which one process at a
  * time uses */
-void keep_create(void); /* makes the node's file, which must not exist */
+void keep_create(void); /* makes the node's files, which must not exist */
 void keep_begin(void);
 
 /* This moment, in nanoseconds since the machine's start; and what the node's clock reads at it, in
