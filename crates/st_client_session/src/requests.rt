@@ -1,7 +1,7 @@
 // The requests of a session.
 ghost use Rattle.std.specs.Prelude.{◌≡◌, ◌+◌, ◌<◌, ◌^◌, true, None, IfOk, OnOk, OnErr, option_map, is_some, nat_lt};
 ghost use Rattle.st_client_session.specs.Sessions.{Again, TakesRelease, message, with_session};
-ghost use Rattle.st_requests.specs.ServerRequests.{body_of, copied, ended, shown};
+ghost use Rattle.st_requests.specs.ServerRequests.{body_of, copied, ended, sent_of, shown};
 ghost use Rattle.st_rules.specs.ClientReplies as replies;
 ghost use Rattle.st_rules.specs.ClientState as client;
 
@@ -48,6 +48,13 @@ impl Session {
         ensures { option_map copied result ≡ option_map shown self.now.session.requests.asked }
     {
         self.requests.asked()
+    }
+
+    /// When the outstanding request was last sent, or `None` if there is none.
+    pub fn sent(&self) -> Option<Stamp>
+        ensures { result ≡ option_map sent_of self.now.session.requests.asked }
+    {
+        self.requests.sent()
     }
 
     /// Whether a request is outstanding.

@@ -89,6 +89,13 @@ impl Session {
         }
     }
 
+    /// When the client asked for the lease, or for its last renewal: the lease ages from then on.
+    pub fn date(&self) -> Stamp
+        ensures { result ≡ self.now.session.lease.date }
+    {
+        self.date
+    }
+
     /// The moment from which the lease is over.
     pub fn end(&self) -> Stamp
         ensures { result ≡ leases.end_of self.now.of.config self.now.session.lease }

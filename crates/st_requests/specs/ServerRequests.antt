@@ -126,6 +126,14 @@ asked r = option_map shown r.requests.asked
 abbrev pub copied : ℕ × Bor Body → ℕ × Body
 copied p = (p.0, p.1.now)
 
+-- when a request was last sent
+abbrev pub sent_of : Request → Stamp
+sent_of q = q.sent
+
+-- when the outstanding request was last sent
+abbrev pub sent : ServerRequests → Option Stamp
+sent r = option_map sent_of r.requests.asked
+
 -- something is outstanding
 abbrev pub waiting : ServerRequests → Bool
 waiting r = is_some r.requests.asked

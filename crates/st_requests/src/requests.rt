@@ -146,6 +146,15 @@ impl Requests {
         Some((asked.request.number, &asked.request.body))
     }
 
+    /// When the outstanding request was last sent, or `None` if there is none. It does not
+    /// allocate.
+    pub fn sent(&self) -> Option<Stamp>
+        ensures { result ≡ shown.sent self.now }
+    {
+        let asked = self.asked.as_ref()?;
+        Some(asked.request.sent)
+    }
+
     /// Whether a request is outstanding. It does not allocate.
     pub fn waiting(&self) -> bool
         ensures { result ≡ shown.waiting self.now }
