@@ -16,9 +16,11 @@ mod session_turn;
 mod sessions;
 mod stores;
 mod turn;
+mod turn_view;
 
 pub use association::Association;
 pub use busy_files::{is_busy, is_open};
 pub use dirty_row::DirtyRow;
 pub use session_turn::SessionTurn;
 pub use turn::Turn;
+pub use turn_view::TurnView;
