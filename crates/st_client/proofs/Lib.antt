@@ -28,3 +28,4 @@ pub mod Running
 pub mod Sleeping
 pub mod Restarts
 pub mod CrashedCounts
+pub mod Looking

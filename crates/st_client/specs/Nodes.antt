@@ -102,6 +102,10 @@ pub record IsKept (old new : ClientState) : Type 0 where
 abbrev pub node_of : ClientId → Config → List ServerId → List Life → Option ClientState → ClientNode
 node_of id config servers lives o = record { state = state_of id config servers lives o; running = is_some o }
 
+-- the state of a node, if it runs
+abbrev pub running_state : ClientNode → Option ClientState
+running_state n = if n.running then Some n.state else None
+
 -- the client that runs is this one, with these servers, in these lives
 pub record IsRunning (client : ClientId) (settings : Config) (ss : List ServerId) (ls : List Life) (c : ClientState) : Type 0 where
   pub id : c.id ≡ client

@@ -13,6 +13,7 @@ mod rules;
 mod state;
 mod step;
 mod turn;
+mod views;
 
 pub use counts::ClientCounts;
 pub use ends::LeaseEnds;
@@ -20,4 +21,5 @@ pub use node::ClientNode;
 pub use st_base::{LostRow, LostRows, NameAsk, NameRow, NameRows};
 pub use st_messages::{AppAnswer, Ask, NameOp, Note, Output, Outputs, StepFault};
 pub use st_rules::{ClientInput, Phase};
+pub use state::ClientState;
 pub use turn::ClientTurn;

@@ -1,13 +1,14 @@
 // A client of a world: it runs, or it is crashed.
 ghost use Rattle.std.specs.Prelude.{◌≡◌, ◌≤◌, ◌^◌, ◌++◌, true, false, length, IsOk, IfOk, OnOk, OnErr, IsTrue, ◌↔◌};
 ghost use Rattle.std.specs.List.{list_all};
+ghost use Rattle.std.specs.Option.{option_copied};
 ghost use Rattle.st_base.specs.Config as settings;
 ghost use Rattle.st_base.specs.declared.ids.ServerId.{ServerId};
 ghost use Rattle.st_client.specs.Counts.{counts_with, is_awaited_with};
 ghost use Rattle.st_client.specs.Losses.{Discards, IsOver};
 ghost use Rattle.st_client.specs.Ends.{end_in};
 ghost use Rattle.st_client.specs.Inputs.{comes_fit, is_sent, Runs, Steps};
-ghost use Rattle.st_client.specs.Nodes.{crashed_node, is_begun};
+ghost use Rattle.st_client.specs.Nodes.{crashed_node, is_begun, running_state};
 ghost use Rattle.st_client.specs.Room.{HasRoom};
 ghost use Rattle.st_rules.specs.Client as client;
 ghost use Rattle.st_rules.specs.World as world;
@@ -115,6 +116,14 @@ impl ClientNode {
         ensures { result ≡ self.now.running }
     {
         self.state.is_some()
+    }
+
+    /// The state, if the node runs. A node that does not run has nothing but its lives.
+    pub fn state(&self) -> Option<&ClientState>
+        ensures running { option_copied result ≡ running_state self.now }
+        ensures crashed { self.now.running ≡ false → self.now.state ≡ client.crash self.now.state }
+    {
+        self.state.as_ref()
     }
 
     /// The lives, by rising server.

@@ -135,7 +135,7 @@ impl ClientState {
     }
 
     /// How many servers there are.
-    fn count(&self) -> usize
+    pub fn count(&self) -> usize
         ensures { result ≡ length self.now.associations }
     {
         self.parts.associations.len()
