@@ -275,6 +275,7 @@ impl ClientNode {
     }
 
     /// Takes a step of a client that runs.
+    #[inline(always)]
     fn step_running(&mut self, now: Stamp, input: &ClientInput) -> Result<Outputs, StepFault>
         requires time { now.0 ≤ 2 ^ 62 }
         requires fits { comes_fit input.now ≡ true }
@@ -304,6 +305,7 @@ impl ClientNode {
     ///
     /// If the lease of a server is over at this moment, nothing of that server is left, and
     /// nothing of it goes out.
+    #[inline(always)]
     #[tactic(auto, unfolding(st_rules::specs::Client::node_step))]
     pub fn step(&mut self, now: Stamp, input: ClientInput) -> Result<Outputs, StepFault>
         requires time { now.0 ≤ 2 ^ 62 }

@@ -54,6 +54,7 @@ impl ClientState {
     }
 
     /// A step: what it leaves, and its outputs.
+    #[inline(always)]
     pub(crate) fn step(
         self,
         now: Stamp,

@@ -48,7 +48,9 @@ fn put_back(
 }
 
 impl ClientTurn {
-    /// A rule at the association at a place, which stays there.
+    /// A rule at the association at a place, which stays there. Most rules do nothing at most places,
+    /// so it stays out of the loop over places.
+    #[inline(never)]
     fn at_place<R: Rule>(self, rule: &R, place: usize) -> Result<ClientTurn, AllocError>
         requires within { place < length self.state.associations }
         requires ready { is_ready_at (R.is_ready rule.now self.state.config) place self.state.associations ≡ true }
@@ -85,6 +87,7 @@ impl ClientTurn {
     }
 
     /// A rule at the association at a place, which is not moved if the rule does nothing there.
+    #[inline(always)]
     fn at_next<R: Rule>(self, rule: &R, place: usize) -> Result<ClientTurn, AllocError>
         requires within { place < length self.state.associations }
         requires ready { is_ready_at (R.is_ready rule.now self.state.config) place self.state.associations ≡ true }

@@ -163,6 +163,7 @@ impl WorldParts {
     }
 
     /// Returns the first refusal of an event that applies. It changes nothing and takes no memory.
+    #[inline(always)]
     pub(crate) fn refusal(&self, event: &Event) -> Option<WorldRefusal>
         requires event { is_event (length self.now.clocks) event.now ≡ true }
         requires room { self.now.tally.events < 2 ^ 29 }

@@ -119,6 +119,7 @@ impl World {
     }
 
     /// Returns the first refusal of an event that applies. It changes nothing and takes no memory.
+    #[inline(always)]
     pub fn refusal(&self, event: &Event) -> Option<WorldRefusal>
         requires event { is_event (length self.now.clocks) event.now ≡ true }
         requires room { self.now.tally.events < 2 ^ 29 }

@@ -31,12 +31,9 @@ fn put_step(flushed: &mut Vec<FlushStep>, step: FlushStep) -> Result<(), AllocEr
 fn flush_end(node: &ClientNode, server: ServerId, clock: Stamp) -> Option<Stamp>
     ensures { result ≡ flush_end node.now.state server clock }
 {
-    match node.lease_end(server) {
-        None => None,
-        Some(end) => match node.phase(server, clock) {
-            Some(Phase::Flush) => Some(end),
-            _ => None,
-        },
+    match node.phase(server, clock) {
+        Some(Phase::Flush) => node.lease_end(server),
+        _ => None,
     }
 }
 
