@@ -12,7 +12,7 @@ use crate::client_pages::{ClientPage, client_page};
 use crate::file_pages::{FilePage, Places, add, file_page, slice_at};
 use crate::marking::{Crashing, Hardening, Losing, Marking, Spare};
 use crate::marks::{mark_places, seen_of};
-use crate::pages::{clear, last_among, later, option_of, page_after};
+use crate::pages::{clear, last_among, option_of, page_after};
 use indexmap::IndexMap;
 use st_base::{ClientId, FileId, Life, PageBytes, PageNo};
 use st_messages::PatchBytes;
@@ -323,7 +323,7 @@ impl FlatLog {
         let of_page = last_among(&self.entries, changes, file, page);
         let cuts = slice_at(&self.cuts, file_page(file, PageNo(0)));
         let of_cuts = last_among(&self.entries, cuts, file, page);
-        option_of(later(of_page, of_cuts))
+        option_of(of_page.max(of_cuts))
     }
 
     /// Returns the bytes of a write, or zeros for a cut. The entry must not be a patch; `entry`

@@ -80,17 +80,11 @@ pub struct Spare {
     pub owner: LogOwner,
 }
 
-fn spares(spare: &Spare, number: u64, of: LogOwner) -> bool
-    ensures { result ≡ walks.spares number of spare.now }
-{
-    number <= spare.index && same_owner(spare.owner, of)
-}
-
 fn is_spared(spared: &[Spare], number: u64, of: LogOwner) -> bool
     ensures { result ≡ list_any (walks.spares number of) spared.now }
 {
     for spare in spared {
-        if spares(spare, number, of) {
+        if number <= spare.index && same_owner(spare.owner, of) {
             return true;
         }
     }

@@ -8,16 +8,6 @@ use crate::marking::Marking;
 use st_rules::{Fate, LogEntry, Observation};
 use std::alloc::{AllocError, Global};
 
-fn is_pending(fate: Fate) -> bool
-    ensures { result ≡ flat_log.is_pending fate }
-{
-    match fate {
-        Fate::Pending => true,
-        Fate::Hard => false,
-        Fate::Gone(_) => false,
-    }
-}
-
 /// Returns what becomes of the pending entry at a place.
 fn next_at<M: Marking>(entries: &[LogEntry], k: usize, marking: &M) -> Fate
     requires { k < length entries.now }
@@ -42,7 +32,7 @@ fn keep(places: &mut [usize], kept: usize, k: usize, fate: Fate) -> usize
     ensures len { length places.new ≡ length places.old }
     ensures most { result ≤ kept + 1 }
 {
-    if is_pending(fate) {
+    if matches!(fate, Fate::Pending) {
         places[kept] = k;
         return kept + 1;
     }

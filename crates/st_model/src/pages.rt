@@ -29,18 +29,13 @@ fn counts(fate: Fate) -> bool
     }
 }
 
-fn touches(entry: &LogEntry, file: FileId, page: PageNo) -> bool
-    ensures { result ≡ flat_log.touches file page entry.now }
-{
-    let of = entry.of;
-    (of.file.server.0 == file.server.0 && of.file.ino == file.ino)
-        && reaches(&entry.change, of.page, page)
-}
-
 fn matters(entry: &LogEntry, file: FileId, page: PageNo) -> bool
     ensures { result ≡ flat_log.matters file page entry.now }
 {
-    touches(entry, file, page) && counts(entry.fate)
+    let of = entry.of;
+    ((of.file.server.0 == file.server.0 && of.file.ino == file.ino)
+        && reaches(&entry.change, of.page, page))
+        && counts(entry.fate)
 }
 
 /// Returns the number of the last entry at these places that touches the page and is not gone, or
@@ -57,13 +52,6 @@ pub(crate) fn last_among(entries: &[LogEntry], places: &[usize], file: FileId, p
         }
     }
     0
-}
-
-/// Returns the greater number.
-pub(crate) fn later(a: u64, b: u64) -> u64
-    ensures { result ≡ max a b }
-{
-    a.max(b)
 }
 
 /// Returns a number that is not 0, or `None` for 0.
@@ -92,18 +80,6 @@ fn put(into: &mut [u8], at: usize, bytes: &[u8])
     into[at..at + bytes.len()].copy_from_slice(bytes);
 }
 
-fn change_page(change: &Change, into: &mut [u8])
-    requires whole { length into.old ≡ 4096 }
-    requires range { IsInPage change.now }
-    ensures { into.new ≡ flat_log.changed change.now into.old }
-{
-    match change {
-        Change::Write(bytes) => bytes.write_to(into),
-        Change::Patch(at, bytes) => put(into, *at as usize, bytes.as_slice()),
-        Change::Cut => clear(into),
-    }
-}
-
 #[tactic(auto, unfolding(st_rules::specs::FlatLog::after))]
 fn put_entry(entry: &LogEntry, k: u64, from: u64, file: FileId, page: PageNo, into: &mut [u8])
     requires whole { length into.old ≡ 4096 }
@@ -111,17 +87,11 @@ fn put_entry(entry: &LogEntry, k: u64, from: u64, file: FileId, page: PageNo, in
     ensures { into.new ≡ (if nat_le from k then flat_log.after file page entry.now into.old else into.old) }
 {
     if from <= k && matters(entry, file, page) {
-        change_page(&entry.change, into);
-    }
-}
-
-fn is_write(change: &Change) -> bool
-    ensures { result ≡ by_page.is_write change.now }
-{
-    match change {
-        Change::Write(_) => true,
-        Change::Patch(_, _) => false,
-        Change::Cut => false,
+        match &entry.change {
+            Change::Write(bytes) => bytes.write_to(into),
+            Change::Patch(at, bytes) => put(into, *at as usize, bytes.as_slice()),
+            Change::Cut => clear(into),
+        }
     }
 }
 
@@ -130,7 +100,7 @@ fn is_write(change: &Change) -> bool
 fn covers(entry: &LogEntry, k: u64, from: u64, file: FileId, page: PageNo) -> bool
     ensures { result ≡ nat_le from k && (flat_log.matters file page entry.now && by_page.is_write entry.now.change) }
 {
-    from <= k && (matters(entry, file, page) && is_write(&entry.change))
+    from <= k && (matters(entry, file, page) && matches!(entry.change, Change::Write(_)))
 }
 
 /// Returns the index, among the places, of the last write of the page that is not gone, or 0. The

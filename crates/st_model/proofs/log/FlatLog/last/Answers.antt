@@ -22,7 +22,7 @@ last_is c =
     let es = c.self.inside.entries.items in
     let ks = c.slice_at-changes.result.now in
     let cs = c.slice_at-cuts.result.now in
-    c.option_of.ensures ∙ ap by_page.option_of c.later.ensures
+    c.option_of.ensures ∙ ap by_page.option_of c.max.ensures
     ∙ (λ i. by_page.option_of (max ((c.last_among-of_page.ensures ∙ ap (λ xs. by_page.last_place (matters f p) xs 0 ks) c.deref.ensures.value) i) ((c.last_among-of_cuts.ensures ∙ ap (λ xs. by_page.last_place (matters f p) xs 0 cs) c.deref-2.ensures.value) i)))
     ∙ last_by_places f p es ks cs
     (c.slice_at-changes.ensures ∙ ap (by_page.at c.self.inside.pages) c.file_page.ensures ∙ c.self.invariant.pages_of (by_page.file_page f p))
