@@ -1,19 +1,21 @@
 -- Lists of changes of the third form: how they are put together, and those of the first two forms among them.
 use Rattle.st_lemmas.proofs.Words
 use Words.{◌≡◌, ℕ, Bool, true, false, List, [], ◌∷◌, ◌++◌, Option, Some, None, map, refl, subst, inl, inr, if◌then◌else◌, append_assoc, filter}
-use Words.{AppAnswer, HeldLock, Operation, Output, Request, Stamp}
+use Words.{◌≤◌, arith, length, AppAnswer, Ask, CleanPage, HeldLock, Operation, Output, Request, Stamp}
+use Words.asks
+use Words.Client as cl
+use Words.ClientPages as pages
 use Words.Lists.{Has}
+use Rattle.std.proofs.lemmas.List.{length-take}
 use Words.ClientState as cs
 use Words.ClientState.{Association, ClientSession, Turn, with_session}
 use Words.Lengths.{nothing_after}
 use Words.Tables.{has_filter}
-use Words.Truth.{false_not_true}
 use Rattle.st_messages.specs.declared.output.Output.TheVariants as outputs
 use Rattle.st_laws_steps.specs.Client.Client as client
 use Rattle.st_laws_steps.specs.Client.Session.{AsksNothing}
-use Rattle.st_laws_steps.proofs.Client.Calm as calm
 use Rattle.st_laws_steps.proofs.Client.Changes.{goes_keeps}
-use Rattle.st_laws_steps.proofs.Client.Only.{Only, Ends, Goes, joined, lifted, single}
+use Rattle.st_laws_steps.proofs.Client.Only.{Only, Ends, Goes, joined, single}
 use Rattle.st_third.specs.declared.beside.Leave.{Leave}
 use Rattle.st_third.specs.declared.output.ThirdOutput.TheVariants as says
 use Rattle.st_third.specs.State as third
@@ -74,22 +76,44 @@ abbrev pub SessionRun : ℕ → Option ClientSession → Type 0
 SessionRun run None = Unit {0}
 SessionRun run (Some s) = RequestRun run s.requests.asked
 
--- what is done without a message neither begins one nor sends any
-pub old_calm : {within : Bounds} {now : Stamp} {t u : Turn} → calm.Changes false now t u → Old within now t u
-old_calm {within} {now} {t} {u} cs = record { list = lifted (calm.IsCalm false) (Continues within) now go t u cs }
-  where
-    spoken : (t : Turn) (o : Output) → calm.SaysCalm false o → SendsRight t o
-    spoken t (outputs.Send m) p = false_not_true p
-    spoken t (outputs.Submit number at what) p = tt
-    spoken t (outputs.Answer op a) p = tt
-    spoken t (outputs.Note n) p = tt
+-- Clean pages: as many as may be.
+pub newest_few : (most : ℕ) (c : CleanPage) (xs : List CleanPage) → length (pages.with_newest most c xs) ≤ most
+newest_few most c xs = omega (arith, length-take most (c ∷ pages.without_clean c.ino c.page xs))
 
-    go : (t u : Turn) (c : client.Change now t u) → calm.IsCalm false now t u c → Continues within now t u c
-    go t _ (client.Begins _ s a b c) p = false_not_true p
-    go t _ (client.Says _ o q) p = spoken t o p
-    go t _ (client.Follows _ s u e g) p = false_not_true p
-    go t _ (client.Writes _ s f q bytes n se sv own m h) p = absurd p
-    go t u c p = tt
+-- Answers.
+module _ {within : Bounds} {now : Stamp} where
+  pub old_answer : (t : Turn) (op : ℕ) (a : AppAnswer) → Old within now t (cs.answered t op a)
+  old_answer t op a = old_one (client.Says t (outputs.Answer op a) tt) tt
+
+  pub old_answers : (picked : Operation → Bool) (a : AppAnswer) (t : Turn) → Old within now t (cs.answer_each picked a t)
+  unfolding cs.answer_each
+  old_answers picked a t = old_one (client.Answers t _ _ a) tt
+
+  pub old_keeps : (t : Turn) (o : Operation) → Old within now t (cs.keep o t)
+  old_keeps t o = old_one (client.Operates t _) tt
+
+  -- lost pages are told
+  old_tells : (t : Turn) (op ino : ℕ) → Old within now t (cl.tell_lost t op ino)
+  unfolding cl.tell_lost
+  old_tells t op ino = old_both (old_one (client.TellsLost t (pages.untold t.here.lost ino)) tt) (old_answer _ op _)
+
+  -- an operation ends with its session
+  pub old_ends : (s : ClientSession) (o : Operation) (t : Turn) → Old within now t (cl.end_operation t s o)
+  unfolding cl.end_operation cl.end_unsent cl.end_sync
+  old_ends s o t = old_either (cs.is_sent o) t _ _ (λ e. old_answer t o.op _) (λ e. unsent o.ask)
+    where
+      unsent : (a : Ask) → Old within now t (cl.end_unsent t o a)
+      unsent (asks.Sync f) = old_either (pages.has_lost t.here.lost f.ino) t _ _ (λ e. old_tells t o.op f.ino) (λ e. old_answer t o.op _)
+      unsent a = old_answer t o.op _
+
+  -- an ask
+  pub old_takes : (op : ℕ) (ask : Ask) (t : Turn) → Old within now t (cl.take_ask op ask t)
+  unfolding cl.take_ask cl.take_by cl.take_sync cl.enqueue
+  old_takes op ask t = go ask
+    where
+      go : (a : Ask) → Old within now t (cl.take_by t op ask a)
+      go (asks.Sync f) = old_either (pages.has_lost t.here.lost f.ino) t _ _ (λ e. old_tells t op f.ino) (λ e. old_keeps t (cs.new_operation op ask))
+      go a = old_keeps t (cs.new_operation op ask)
 
 pub left_has : {A : Type 0} (xs ys : List A) (x : A) → Has x xs → Has x (xs ++ ys)
 left_has [] ys x h = absurd h

@@ -1,22 +1,25 @@
 -- Asks of applications, and ends of disk commands, at a client of the third form, are changes.
 use Rattle.st_lemmas.proofs.Words
-use Words.{◌≡◌, ℕ, ◌==◌, Bool, true, false, List, Option, Some, None, refl, sym, subst, if◌then◌else◌, Ask, Ended, IoKind, PageCommand, Stamp, Tag}
+use Words.{◌≡◌, ℕ, ◌==◌, Bool, true, false, List, Option, Some, None, refl, sym, ap, ◌∙◌, subst, if◌then◌else◌, eq-eqb, eqb-true, option_map, unwrap_or}
+use Words.{Ask, DirtyPage, IoKind, PageCommand, Stamp, Tag}
 use Words.answers
 use Words.ends
 use Words.io
 use Words.Client as cl
 use Words.ClientPages as pages
 use Words.ClientState.{Turn}
+use Words.Truth.{not_both}
 use Words.Versions.{command_number}
-use Rattle.st_laws_steps.specs.Client.Losses.{Unknown, without}
-use Rattle.st_laws_steps.proofs.Client.Losing.{Finished, changes_by_take, end_is, failed_ends, is_done}
+use Rattle.st_laws_steps.specs.Client.Client as client
+use Rattle.st_laws_steps.specs.Client.Losses.{IsOutdated, Hardens, Passes, Unknown, without}
+use Rattle.st_laws_steps.proofs.Client.Losing.{failed_ends, is_done}
 use Rattle.st_third.specs.Client as third
 use Rattle.st_third.specs.State.{ThirdTurn, plainly}
 use Rattle.st_laws_third.specs.Changes.{ThirdChanges, ThirdFinishes, Still, with_plain}
-use Rattle.st_laws_third.proofs.Chains.{answered_with_leaves, as_plain, by_rule, old_calm}
+use Rattle.st_laws_third.proofs.Chains.{answered_with_leaves, as_plain, by_rule, newest_few, old_answers, old_one, old_takes}
 
 pub takes : (now : Stamp) (op : ℕ) (ask : Ask) (t : ThirdTurn) → ThirdChanges None now t (third.take_plainly op ask t)
-takes now op ask t = by_rule t (cl.take_ask op ask) (old_calm (changes_by_take now op ask t.plain))
+takes now op ask t = by_rule t (cl.take_ask op ask) (old_takes op ask t.plain)
 
 module _ (now : Stamp) (number : ℕ) (t : ThirdTurn) where
   abbrev F : Bool → ThirdTurn → Type 0
@@ -26,23 +29,6 @@ module _ (now : Stamp) (number : ℕ) (t : ThirdTurn) where
   same : (ok : Bool) → F ok t
   same ok = record { middle = t.plain; ends = Unknown; rest = Still t }
 
-  -- a command ends as in the first two forms
-  alike : (ok : Bool) (u : Turn) → Finished now number ok t.plain u → F ok (with_plain u t)
-  alike ok u f = record { middle = f.mid; ends = f.ends; rest = as_plain (with_plain f.mid t) u (old_calm f.calm) }
-
-  -- any end but a failure
-  abbrev Well : Ended → Type 0
-  Well ends.Failed = ⊥
-  Well x = Unit {0}
-
-  done_well : (k : IoKind) (version : ℕ) → Well (pages.done_as k version)
-  done_well io.Read version = tt
-  done_well (io.Write v) version = go (v == version)
-    where
-      go : (b : Bool) → Well (if b then ends.Hard else ends.Redirty)
-      go true = tt
-      go false = tt
-
   module _ (c : PageCommand) (block : Option (Tag × List ℕ)) (e : pages.command_of t.plain.here.store.commands number ≡ Some c) where
     abbrev version : ℕ
     version = pages.version_of t.plain.here.store.pages c.ino c.page
@@ -51,38 +37,67 @@ module _ (now : Stamp) (number : ℕ) (t : ThirdTurn) where
     abbrev u : Turn
     u = without number t.plain
 
-    ends_well : (ok : Bool) (x : Ended) → Well x → Finished now number ok t.plain (cl.finish_as u c block x) → F ok (third.finish_as (with_plain u t) c block x)
-    unfolding third.finish_as plainly
-    ends_well ok ends.Failed w f = absurd w
-    ends_well ok x w f = alike ok _ f
+    -- the pages stay as they were
+    stay : (ok : Bool) (v : ThirdTurn) → IsOutdated t.plain c → ThirdChanges None now (with_plain u t) v → F ok v
+    stay ok v o cs = record { middle = u; ends = Passes c e o; rest = cs }
 
-    fails : (k : IoKind) → c.kind ≡ k → Finished now number false t.plain (cl.failed_as u c k) → F false (third.failed_as (with_plain u t) c k)
-    unfolding third.failed_as plainly
-    fails io.Read k f = alike false _ f
-    fails (io.Write v) k f =
+    a_read : c.kind ≡ io.Read → IsOutdated t.plain c
+    a_read k v d q = absurd (no (sym k ∙ q))
+      where
+        no : io.Read ≡ io.Write v → ⊥
+        no z = cc
+
+    an_old_write : (v : ℕ) → c.kind ≡ io.Write v → (v == version) ≡ false → IsOutdated t.plain c
+    an_old_write v k f w d q i r =
+        not_both (v == version)
+        (eq-eqb v version (same v w (sym k ∙ q) ∙ sym r ∙ sym (ap (λ o. unwrap_or (option_map pages.version_of_dirty o) 0) i))) f
+      where
+        same : (v w : ℕ) → io.Write v ≡ io.Write w → v ≡ w
+        same v w z = cc
+
+    fills : (ok : Bool) → c.kind ≡ io.Read → (b : Option (Tag × List ℕ)) → F ok (plainly (third.finished c b ends.Filled) (with_plain u t))
+    unfolding plainly cl.finish_as cl.filled_by pages.fill
+    fills ok k None = stay ok _ (a_read k) (Still (with_plain u t))
+    fills ok k (Some b) =
+        stay ok _ (a_read k)
+        (as_plain (with_plain u t) _ (old_one (client.Caches u _) (newest_few u.here.store.pages.most_clean _ u.here.store.pages.clean)))
+
+    writes : (v : ℕ) → c.kind ≡ io.Write v → (b : Bool) → (v == version) ≡ b →
+        F true (third.finish_as (with_plain u t) c block (if b then ends.Hard else ends.Redirty))
+    unfolding third.finish_as plainly cl.finish_as
+    writes v k true f = record { middle = cl.hardened u c; ends = Hardens c v e refl k (sym (eqb-true v version f)); rest = Still _ }
+    writes v k false f = stay true _ (an_old_write v k f) (Still (with_plain u t))
+
+    fails : (k : IoKind) → c.kind ≡ k → F false (third.failed_as (with_plain u t) c k)
+    unfolding third.failed_as plainly cl.failed_as
+    fails io.Read k =
+        stay false _ (a_read k)
+        (by_rule (with_plain u t) (third.read_failed c) (old_answers (cl.waits_for_read u c) (answers.DiskFault c.number) u))
+    fails (io.Write v) k =
         record {
           middle = cl.mark_failed u c v;
           ends = failed_ends number t.plain c v e k;
           rest = answered_with_leaves (cl.waits_for_write u c) (answers.DiskFault c.number) (with_plain (cl.mark_failed u c v) t);
         }
 
+    done : (k : IoKind) → c.kind ≡ k → F true (third.finish_as (with_plain u t) c block (pages.done_as k version))
+    unfolding third.finish_as
+    done io.Read k = fills true k block
+    done (io.Write v) k = writes v k (v == version) refl
+
     -- done, or failed
-    ends_as : (ok : Bool) → Finished now number ok t.plain (cl.finish_as u c block (pages.ended_as c ok version)) →
-        F ok (third.finish_as (with_plain u t) c block (pages.ended_as c ok version))
-    unfolding third.finish_as cl.finish_as
-    ends_as true f = ends_well true (pages.done_as c.kind version) (done_well c.kind version) f
-    ends_as false f = fails c.kind refl f
+    ends_as : (ok : Bool) → F ok (third.finish_as (with_plain u t) c block (pages.ended_as c ok version))
+    unfolding third.finish_as
+    ends_as true = done c.kind refl
+    ends_as false = fails c.kind refl
 
     -- the command that ends is the one that was found
     command_ends : (ok : Bool) → F ok (third.finish_command t c ok block)
-    unfolding third.finish_command pages.end_command pages.end_at cl.finish_command cl.ended_by plainly
+    unfolding third.finish_command pages.end_command pages.end_at plainly
     command_ends ok =
         subst (λ m. F ok (third.ended_by t c block (pages.end_at t.plain.here.store.commands m ok version (pages.command_of t.plain.here.store.commands m)))) (sym n)
         (subst (λ o. F ok (third.ended_by t c block (pages.end_at t.plain.here.store.commands number ok version o))) (sym e)
-        (ends_as ok
-        (subst (λ o. Finished now number ok t.plain (cl.ended_by t.plain c block (pages.end_at t.plain.here.store.commands number ok version o))) e
-        (subst (λ m. Finished now number ok t.plain (cl.ended_by t.plain c block (pages.end_at t.plain.here.store.commands m ok version (pages.command_of t.plain.here.store.commands m)))) n
-        (end_is now number ok t.plain c block e)))))
+        (ends_as ok))
       where
         n : c.number ≡ number
         n = command_number t.plain.here.store.commands number c e

@@ -8,11 +8,10 @@ use Words.Lists.{Has}
 use Words.Lookups.{some_is}
 use Words.Tables.{has_filter}
 use Rattle.std.specs.Option.{option_or}
-use Rattle.st_laws_steps.proofs.Client.Calm as calm
 use Rattle.st_third.specs.GiveBack as giving
 use Rattle.st_third.specs.State.{ThirdTurn, plainly, session}
 use Rattle.st_laws_third.specs.Changes.{ThirdChanges, Bounds, GivesBack, Heard, IsBeside, SameRun, Still}
-use Rattle.st_laws_third.proofs.Chains.{Old, both, by_rule, either, old_calm, old_still, one}
+use Rattle.st_laws_third.proofs.Chains.{Old, both, by_rule, either, old_answers, old_still, one}
 
 -- The lock that is chosen is one of those.
 
@@ -55,7 +54,7 @@ refusal_keeps s t o q =
 refuses : {within : Bounds} {now : Stamp} (u : Turn) (file : Option ℕ) → Old within now u (replies.refuse_file u answers.TooManyLocks file)
 unfolding replies.refuse_file
 refuses u None = old_still u
-refuses u (Some ino) = old_calm (calm.changes_by_each_answer (replies.works_on u ino) answers.TooManyLocks u tt)
+refuses u (Some ino) = old_answers (replies.works_on u ino) answers.TooManyLocks u
 
 module _ {got : Heard} {now : Stamp} where
   module _ (s : ClientSession) where

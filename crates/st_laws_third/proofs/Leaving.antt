@@ -9,14 +9,14 @@ use Words.Lists.{Has}
 use Words.Tables.{and_true, has_append}
 use Rattle.st_laws_steps.specs.Client.Client as client
 use Rattle.st_laws_steps.specs.Client.Losses.{is_ended}
-use Rattle.st_laws_steps.proofs.Client.Losing.{changes_by_end, over_is}
+use Rattle.st_laws_steps.proofs.Client.Losing.{over_is}
 use Rattle.st_third.specs.declared.beside.Leave.{Leave}
 use Rattle.st_third.specs.declared.output.ThirdOutput.TheVariants as says
 use Rattle.st_third.specs.Leave as leaving
 use Rattle.st_third.specs.State as third
 use Rattle.st_third.specs.State.{ThirdTurn, plainly, session}
 use Rattle.st_laws_third.specs.Changes.{ThirdChanges, ArePending, ThirdLeaves, ThirdLoses, Greets, HasLeft, Heard, HeardLeave, IsLost, Lasts, Leaves, Says, Stays, Still}
-use Rattle.st_laws_third.proofs.Chains.{both, by_rule, either, fewer_leaves, leave_answered, old_both, old_calm, old_one, one}
+use Rattle.st_laws_third.proofs.Chains.{both, by_rule, either, fewer_leaves, leave_answered, old_both, old_ends, old_one, one}
 use Rattle.st_laws_third.proofs.UsedOnce.{reduces_each}
 
 module _ {got : Heard} {now : Stamp} where
@@ -73,7 +73,7 @@ module _ {got : Heard} {now : Stamp} where
     where
       go : (o : Option Operation) → ThirdChanges got now t (leaving.end_either s ls op t o)
       go None = ends_leave t (find (third.is_leave_numbered op) ls)
-      go (Some o) = by_rule t (leaving.ended s o) (old_calm (changes_by_end now t.plain s o))
+      go (Some o) = by_rule t (leaving.ended s o) (old_ends s o t.plain)
 
   ends_operations : (s : ClientSession) (t : ThirdTurn) → ThirdChanges got now t (leaving.end_operations s t)
   unfolding leaving.end_operations

@@ -35,6 +35,6 @@ pub mod Mail
 pub mod DemandsSeen
 pub mod ShortRuns
 mod FewLocks
-mod FewDirty
+mod FewPages
 mod FewRows
 mod Expiry

@@ -18,12 +18,11 @@ use Words.Tables.{and_true, has_filter}
 use Rattle.st_laws_steps.specs.Client.Client as client
 use Rattle.st_laws_steps.specs.Client.Client.{Unasked, UnhardAnswer}
 use Rattle.st_laws_steps.specs.Client.Session.{AsksNothing, DropsLock, EndsRequest, IsReasserted, NewEpoch}
-use Rattle.st_laws_steps.proofs.Client.Calm.{changes_by_each_answer}
 use Rattle.st_laws_steps.proofs.Client.Changes.{goes_keeps}
 use Rattle.st_laws_steps.proofs.Client.Replying.{Fresh, alike_condemned, alike_wait, granted_alike, same_store, session_ended}
 use Rattle.st_base.specs.Mode.{covers}
 use Rattle.st_laws_third.specs.Changes.{Bounds, GoesOnBy, Hears, NewerEpoch, WasHeld}
-use Rattle.st_laws_third.proofs.Chains.{Old, fewer_locks, old_both, old_calm, old_either, old_one, old_still, same_locks}
+use Rattle.st_laws_third.proofs.Chains.{Old, fewer_locks, old_answers, old_both, old_either, old_one, old_still, same_locks}
 use Rattle.st_laws_third.proofs.UsedOnce.{has_granted}
 
 -- a lease that is renewed is dated no earlier
@@ -58,7 +57,7 @@ module _ (within : Bounds) (now : Stamp) where
         date = omega arith;
         asks = λ x q. absurd (no_page x q);
       })) (tt, record { locks = λ l i. WasHeld l i refl refl; epoch = NewerEpoch body h }))
-      (old_calm (changes_by_each_answer (is_asked t.here.server) (answers.Uncertain s.epoch.0 epoch.0) (with_session (replies.in_epoch epoch s) t) tt)))
+      (old_answers (is_asked t.here.server) (answers.Uncertain s.epoch.0 epoch.0) (with_session (replies.in_epoch epoch s) t)))
       (λ b. old_still t)
 
   pub of_other_epoch : (t : Turn) (s : ClientSession) (epoch : Epoch) (body : Body) → t.here.session ≡ Some s → Hears within.heard t.here epoch.0 body →
@@ -111,15 +110,10 @@ module _ (within : Bounds) (now : Stamp) where
 
   is_named : (t : Turn) (s : ClientSession) (file : Option ℕ) (reply : NameReply) → t.here.session ≡ Some s → C t (replies.named t s file reply)
   unfolding replies.named replies.named_as answer_each
-  is_named t s file reply e = old_both (old_calm (changes_by_each_answer (is_asked t.here.server) (replies.name_answer reply) t (unhard reply))) (go reply)
+  is_named t s file reply e = old_both (old_answers (is_asked t.here.server) (replies.name_answer reply) t) (go reply)
     where
       u : Turn
       u = answer_each (is_asked t.here.server) (replies.name_answer reply) t
-
-      unhard : (r : NameReply) → UnhardAnswer (replies.name_answer r)
-      unhard (Ino ino) = tt
-      unhard (Listed rows) = tt
-      unhard (Refused code) = tt
 
       go : (r : NameReply) → C u (replies.named_as u s file r)
       go (Ino ino) = drops_lock u s file e
@@ -130,17 +124,17 @@ module _ (within : Bounds) (now : Stamp) where
   refuses_as : (t : Turn) (w : Why) (a b : ℕ) (file : Option ℕ) (asked : Body) → C t (replies.refuse_as t w a b file asked)
   unfolding replies.refuse_as replies.refuse_file replies.refuse_page replies.refuse_holder
   refuses_as t why.NoFile a b None asked = old_still t
-  refuses_as t why.NoFile a b (Some ino) asked = old_calm (changes_by_each_answer (replies.works_on t ino) answers.NoFile t tt)
+  refuses_as t why.NoFile a b (Some ino) asked = old_answers (replies.works_on t ino) answers.NoFile t
   refuses_as t why.TooManyLocks a b None asked = old_still t
-  refuses_as t why.TooManyLocks a b (Some ino) asked = old_calm (changes_by_each_answer (replies.works_on t ino) answers.TooManyLocks t tt)
+  refuses_as t why.TooManyLocks a b (Some ino) asked = old_answers (replies.works_on t ino) answers.TooManyLocks t
   refuses_as t why.NoSpace a b file asked = at file (cs.page_asked asked)
     where
       at : (f : Option ℕ) (p : Option PageNo) → C t (replies.refuse_page t (answers.NoSpace a b) f p)
       at None p = old_still t
       at (Some ino) None = old_still t
-      at (Some ino) (Some p) = old_calm (changes_by_each_answer (replies.writes_on t ino p) (answers.NoSpace a b) t tt)
+      at (Some ino) (Some p) = old_answers (replies.writes_on t ino p) (answers.NoSpace a b) t
   refuses_as t why.NotHolder a b file asked =
-      old_either (cs.asks_cut_or_remove asked) t _ _ (λ e. old_calm (changes_by_each_answer (is_asked t.here.server) answers.NotHolder t tt)) (λ e. old_still t)
+      old_either (cs.asks_cut_or_remove asked) t _ _ (λ e. old_answers (is_asked t.here.server) answers.NotHolder t) (λ e. old_still t)
   refuses_as t w a b file asked = old_still t
 
   refuses : (t : Turn) (w : Why) (a b : ℕ) (file : Option ℕ) (asked : Body) → C t (replies.refused t w a b file asked)
@@ -166,7 +160,7 @@ module _ (within : Bounds) (now : Stamp) where
       waits false = same_locks t.here s _ refl refl
   has_effect t s epoch (bodies.Extents ino rows) file asked o e n f fr h =
       old_either (replies.is_current s.locks asked) t _ _ (λ c. learns t ino rows asked (subst Unasked (sym e) n) f fr) (λ c. old_still t)
-  has_effect t s epoch bodies.Ack file asked o e n f fr h = old_calm (changes_by_each_answer (is_asked t.here.server) answers.Cut t tt)
+  has_effect t s epoch bodies.Ack file asked o e n f fr h = old_answers (is_asked t.here.server) answers.Cut t
   has_effect t s epoch (bodies.Named reply) file asked o e n f fr h = is_named t s file reply e
   has_effect t s epoch bodies.Reasserted file asked o e n f fr h = absurd o
   has_effect t s epoch (bodies.Nack w a b) file asked o e n f fr h = refuses t w a b file asked

@@ -21,7 +21,7 @@ use Rattle.st_third.specs.Limits.{is_dirty_full}
 use Rattle.st_third.specs.Room as room
 use Rattle.st_third.specs.State.{ThirdTurn, plainly, session}
 use Rattle.st_laws_third.specs.Changes.{ThirdChanges, Bounds, Heard, Still, WaitsForRoom, bounds}
-use Rattle.st_laws_third.proofs.Chains.{Old, both, by_rule, either, old_both, old_either, old_one, old_still, one}
+use Rattle.st_laws_third.proofs.Chains.{Old, both, by_rule, either, newest_few, old_answer, old_both, old_either, old_keeps, old_one, old_still, one}
 
 -- what a write leaves of the session
 same_session : (now : Stamp) (at : List ℕ) (s : ClientSession) (tick : Bool) (t : ThirdTurn) (d : Option DirtyPage) →
@@ -40,15 +40,9 @@ same_session now at s tick t (Some d) = go (room.is_writable at t s now tick d)
 
 -- Fetching and reading a page: neither changes one.
 module _ {within : Bounds} {now : Stamp} where
-  kept : (t : Turn) (o : Operation) → Old within now t (keep o t)
-  kept t o = old_one (client.Operates t _) tt
-
-  answered : (t : Turn) (op : ℕ) (a : AppAnswer) → Old within now t (cs.answered t op a)
-  answered t op a = old_one (client.Says t (outputs.Answer op a) tt) tt
-
   fetches : (t : Turn) (o : Operation) (f : FileId) (p : PageNo) → pages.cached t.here.store.pages f.ino p ≡ None → Old within now t (passes.fetch t o f p)
   unfolding passes.fetch passes.fetch_at passes.fetch_mapped
-  fetches t o f p uncached = old_both (go (pages.mapping_of t.here.store.extents f.ino p) refl) (kept _ o)
+  fetches t o f p uncached = old_both (go (pages.mapping_of t.here.store.extents f.ino p) refl) (old_keeps _ o)
     where
       go : (m : Option MappedBlock) → pages.mapping_of t.here.store.extents f.ino p ≡ m → Old within now t (passes.fetch_at t f p m)
       go None e = old_still t
@@ -62,7 +56,9 @@ module _ {within : Bounds} {now : Stamp} where
     where
       at : (c : Option CleanPage) → Old within now t (with_store (record t.here.store { pages = pages.use_at t.here.store.pages c }) t)
       at None = old_still t
-      at (Some c) = old_one (client.Caches t (pages.with_newest t.here.store.pages.most_clean c t.here.store.pages.clean)) tt
+      at (Some c) =
+          old_one (client.Caches t (pages.with_newest t.here.store.pages.most_clean c t.here.store.pages.clean))
+          (newest_few t.here.store.pages.most_clean c t.here.store.pages.clean)
 
       go : (d : Option DirtyPage) → Old within now t (with_store (record t.here.store { pages = pages.use_clean t.here.store.pages ino p d }) t)
       go (Some d) = old_still t
@@ -70,19 +66,19 @@ module _ {within : Bounds} {now : Stamp} where
 
   reads : (t : Turn) (s : ClientSession) (o : Operation) (f : FileId) (p : PageNo) → Old within now t (passes.read t s o f p)
   unfolding passes.read passes.read_at passes.read_cached passes.read_uncached passes.read_known
-  reads t s o f p = old_either (passes.holds s modes.S f) t _ _ (λ e. go (pages.cached t.here.store.pages f.ino p) refl) (λ e. kept t o)
+  reads t s o f p = old_either (passes.holds s modes.S f) t _ _ (λ e. go (pages.cached t.here.store.pages f.ino p) refl) (λ e. old_keeps t o)
     where
       known : pages.cached t.here.store.pages f.ino p ≡ None → (e : KnownExtent) (m : Option MappedBlock) → Old within now t (passes.read_known t o f p e m)
-      known q e None = answered t o.op (answers.Read (filled 0))
+      known q e None = old_answer t o.op (answers.Read (filled 0))
       known q e (Some m) = fetches t o f p q
 
       uncached : pages.cached t.here.store.pages f.ino p ≡ None → (e : Option KnownExtent) → Old within now t (passes.read_uncached t o f p e)
-      uncached q None = kept t o
+      uncached q None = old_keeps t o
       uncached q (Some e) = known q e e.mapping
 
       go : (b : Option (List ℕ)) → pages.cached t.here.store.pages f.ino p ≡ b → Old within now t (passes.read_at t o f p b)
       go None q = uncached q (pages.known_of t.here.store.extents f.ino p)
-      go (Some bytes) q = old_both (uses t f.ino p) (answered _ o.op (answers.Read bytes))
+      go (Some bytes) q = old_both (uses t f.ino p) (old_answer _ o.op (answers.Read bytes))
 
 module _ {got : Heard} {now : Stamp} where
   pub keeps : (t : ThirdTurn) (o : Operation) → ThirdChanges got now t (plainly (keep o) t)

@@ -1,6 +1,6 @@
 -- What the rules of a client of the third form do at one server, as a list of small changes: those of
 -- the first two forms, and a few more.
-use Rattle.std.specs.Prelude.{◌≡◌, ℕ, ◌+◌, ◌<◌, ◌≤◌, ◌⊎◌, pred, Bool, true, false, List, [], Option, Some, None}
+use Rattle.std.specs.Prelude.{◌≡◌, ℕ, ◌+◌, ◌<◌, ◌≤◌, ◌⊎◌, pred, Bool, true, false, List, [], length, Option, Some, None}
 use Rattle.st_base.specs.declared.ids.Epoch.{Epoch}
 use Rattle.st_base.specs.declared.ids.Stamp.{Stamp}
 use Rattle.st_base.specs.declared.ids.GrantNo.{GrantNo}
@@ -147,11 +147,13 @@ abbrev pub bounds : Heard → ThirdTurn → Bounds
 bounds got t = record { heard = got; run = t.beside.run; dirty = t.limits.dirty }
 
 -- A change of the first two forms, within bounds. It begins no session, sends nothing else, asks for no
--- longer run, and changes a page only if there is room for it. A lock and an epoch that are new were heard.
+-- longer run, changes a page only if there is room for it, and leaves no more clean pages than may be.
+-- A lock and an epoch that are new were heard.
 abbrev pub Continues : (within : Bounds) (now : Stamp) (t u : Turn) → Change now t u → Type 0
 Continues within now t _ (client.Begins _ s a b c) = ⊥
 Continues within now t _ (client.Says _ o p) = SendsRight t o
 Continues within now t _ (client.Follows _ s u e g) = (AsksRight within.run t.here.store s u g.how) × (GoesOnBy within.heard t.here (Some s) u)
+Continues within now t _ (client.Caches _ clean) = length clean ≤ t.here.store.pages.most_clean
 Continues within now t _ (client.Writes _ s f p bytes n se sv own m h) = is_dirty_full within.dirty t.here.store.pages f.ino p ≡ false
 Continues within now t u c = Unit {0}
 

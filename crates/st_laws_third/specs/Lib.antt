@@ -12,5 +12,5 @@ pub mod ShortRuns
 pub mod FirstPromises
 pub mod Expiry
 pub mod FewLocks
-pub mod FewDirty
+pub mod FewPages
 pub mod FewRows

@@ -1,8 +1,11 @@
 ghost use Rattle.st_laws_third.specs.Demands.{EveryDemandIsAnswered, EveryRunAnswersDemands};
 ghost use Rattle.st_laws_third.specs.DemandsSeen.{EveryDemandIsSeen};
 ghost use Rattle.st_laws_third.specs.Expiry.{EveryExpiredLeaseLeavesNothing};
-ghost use Rattle.st_laws_third.specs.FewDirty.{EveryClientHasFewDirtyPages};
 ghost use Rattle.st_laws_third.specs.FewLocks.{EveryClientHasFewLocks};
+ghost use Rattle.st_laws_third.specs.FewPages.{
+  EveryClientHasFewCleanPages,
+  EveryClientHasFewDirtyPages,
+};
 ghost use Rattle.st_laws_third.specs.FewRows.{EveryReassertionIsFew};
 ghost use Rattle.st_laws_third.specs.FirstForms.{FirstHeadsStay, FirstRunsStay, FirstStepsStay};
 ghost use Rattle.st_laws_third.specs.FirstPromises.{EveryHardEntryStays};
@@ -121,6 +124,12 @@ pub fn every_client_has_few_locks()
 /// its limit says.
 pub fn every_client_has_few_dirty_pages()
     ensures { EveryClientHasFewDirtyPages }
+{}
+
+/// After each event of every run of the third form, no client has more clean pages of a server than
+/// its limit says.
+pub fn every_client_has_few_clean_pages()
+    ensures { EveryClientHasFewCleanPages }
 {}
 
 /// In every run of the third form, no message reasserts more locks than a client may have of a

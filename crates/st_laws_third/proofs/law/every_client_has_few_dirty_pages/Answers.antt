@@ -1,4 +1,4 @@
-use Rattle.st_laws_third.proofs.FewDirty.{every_client_has_few_dirty_pages}
+use Rattle.st_laws_third.proofs.FewPages.{every_client_has_few_dirty_pages}
 use Rattle.st_laws_third.proofs.law.every_client_has_few_dirty_pages.Goals as goal
 
 pub returns : goal.returns

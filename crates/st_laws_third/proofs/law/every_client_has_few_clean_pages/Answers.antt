@@ -1,0 +1,5 @@
+use Rattle.st_laws_third.proofs.FewPages.{every_client_has_few_clean_pages}
+use Rattle.st_laws_third.proofs.law.every_client_has_few_clean_pages.Goals as goal
+
+pub returns : goal.returns
+returns c = every_client_has_few_clean_pages
