@@ -19,10 +19,11 @@ from reference import wire
 from reference.clocks import steal_wait
 from reference.disks import UNWRITTEN
 from reference.report import observation_text
-from reference.schedule import event_line, node_word
+from reference.schedule import LineRefused, event_line, node_word, read_event, read_head
 from reference.settings import Settings
+from reference.world import World
 
-MOST_EVENTS = 100_000
+MOST_EVENTS = 100_000  # of a schedule that the program plays
 STEEPEST = 0.1  # by how much the rates of two machines' clocks are apart at the most
 SUSPECT, GRACE_OVER = wire.CAUSE_NUMBERS["suspect"], wire.CAUSE_NUMBERS["graceover"]
 COMPARED = ("send", "submit", "answer")
@@ -437,9 +438,9 @@ class Join:
     texts that the report must have of it.
     """
 
-    def __init__(self, nodes, program, disk=None, unknown=None, made=()):
-        self.nodes, self.program, self.disk, self.made = nodes, program, disk, set(made)
-        self.unknown = {} if unknown is None else unknown
+    def __init__(self, nodes, program, disk=None, unknown=None, made=(), reports=None):
+        self.nodes, self.disk, self.made = nodes, disk, set(made)
+        self.unknown, self.reports = {} if unknown is None else unknown, reports or Reports(program)
         self.words = next(iter(nodes.values())).words
         self.clients, self.servers = int(self.words[9]), int(self.words[10])
         self.names = [f"c{i + 1}" for i in range(self.clients)] + [f"s{i + 1}" for i in range(self.servers)]
@@ -680,8 +681,8 @@ class Join:
     def unknown_outputs(self, it):
         """What a step gave in which its node stopped is as the report tells it."""
         if (it.node, it.line) not in self.unknown:
-            lines, events = self.schedule()
-            told = told_of(self.program, lines)[0].get(len(events), ())
+            lines, events = self.schedule(has_losses=False)
+            told = self.reports.told_of(lines)[0].get(len(events), ())
             self.unknown[it.node, it.line] = [words.split(" ")[0] for words in told]
         for kind in self.unknown[it.node, it.line]:
             if kind == "send":
@@ -737,21 +738,19 @@ class Join:
 
     # The schedule
 
-    def schedule(self):
+    def schedule(self, has_losses=True):
         """The head, the events with the losses of messages that nobody took, and the end; and for
         each event its entry.
         """
         head = " ".join(["tank 2", *self.words])
         lost = collections.defaultdict(list)
         for number, entry in enumerate(self.senders, 1):
-            if number not in self.delivered:
+            if has_losses and number not in self.delivered:
                 lost[entry].append(number)
         events = []
         for place, entry in enumerate(self.entries):
             events.append(entry)
             events += [(f"lose {number}", None, []) for number in lost.get(place, ())]
-        self.is_cut = len(events) > MOST_EVENTS
-        events = events[:MOST_EVENTS]
         return [head, *(line for line, _, _ in events), "end"], events
 
 
@@ -770,26 +769,77 @@ def joined(nodes, program, disk=None):
     """The schedule of a run, once what stopped within a step or a disk command is known from what
     came later.
     """
-    unknown, made = {}, set()
+    unknown, made, reports = {}, set(), Reports(program)
     while True:
-        join = Join(nodes, program, disk, unknown, made).make()
+        join = Join(nodes, program, disk, unknown, made, reports).make()
         if not join.problem or join.problem.name != "Unsure":
             return join
         made.add(join.unsure)
 
 
-def told_of(program, lines):
-    """What the report of a schedule tells of each event, as far as it is compared; and its last
-    line.
+class Played:
+    """The world of reference/ after the events of a schedule, and what it told of them."""
+
+    def __init__(self, head):
+        self.head = read_head(head.encode())
+        self.world, self.lines, self.told, self.refused = World(self.head), [head], {}, None
+
+    def goes_on(self, lines):
+        """Whether the schedule of these lines begins with what was played."""
+        return len(lines) > len(self.lines) and lines[:len(self.lines)] == self.lines
+
+    def play(self, lines):
+        """Plays the rest of the schedule, up to a line that is refused."""
+        for line in lines[len(self.lines):-1]:
+            self.lines.append(line)
+            self.refused = self.happen(line)
+            if self.refused:
+                return
+
+    def happen(self, line):
+        """Makes an event happen; or its refusal, as the last line of a report."""
+        try:
+            event = read_event(line.encode("latin-1"), self.head)
+        except LineRefused as fault:
+            return " ".join(map(str, ["line", len(self.lines), fault.name, *fault.values]))
+        refusal = self.world.refusal(event)
+        if refusal is not None:
+            return " ".join(map(str, ["line", len(self.lines), *refusal]))
+        texts = map(observation_text, self.world.step(event))
+        self.told[len(self.lines) - 1] = [text for text in texts if text.split(" ", 1)[0] in COMPARED]
+        return None
+
+
+class Reports:
+    """What is told of the events of schedules: of the first 100,000 by the program, and of later
+    ones, which no schedule for the program has, by reference/.
     """
-    ran = subprocess.run([program, "replay"], input="\n".join(lines).encode("latin-1") + b"\n", stdout=subprocess.PIPE)
-    report = ran.stdout.decode("latin-1").splitlines()
-    told = collections.defaultdict(list)
-    for line in report[1:-1]:
-        event, _, words = line.partition(" ")
-        if words.split(" ", 1)[0] in COMPARED:
-            told[int(event)].append(words)
-    return told, report[-1] if report else "line 1 NoHead"
+
+    def __init__(self, program):
+        self.program, self.played = program, None
+
+    def told_of(self, lines):
+        """What the report of a schedule tells of each event, as far as it is compared; and its last
+        line.
+        """
+        told, last = self.of_program([*lines[:-1][:MOST_EVENTS + 1], "end"])
+        if len(lines) - 2 <= MOST_EVENTS or last.startswith("line "):
+            return told, last
+        if self.played is None or not self.played.goes_on(lines):
+            self.played = Played(lines[0])
+        self.played.play(lines)
+        return {**self.played.told, **told}, self.played.refused or "end"
+
+    def of_program(self, lines):
+        """The same of a schedule that the program plays."""
+        ran = subprocess.run([self.program, "replay"], input="\n".join(lines).encode("latin-1") + b"\n", stdout=subprocess.PIPE)
+        report = ran.stdout.decode("latin-1").splitlines()
+        told = collections.defaultdict(list)
+        for line in report[1:-1]:
+            event, _, words = line.partition(" ")
+            if words.split(" ", 1)[0] in COMPARED:
+                told[int(event)].append(words)
+        return told, report[-1] if report else "line 1 NoHead"
 
 
 def difference(events, told, happened):
@@ -802,10 +852,10 @@ def difference(events, told, happened):
     return None
 
 
-def compare(program, join):
+def compare(join):
     """The verdict of one schedule of a run."""
     lines, events = join.schedule()
-    told, last = told_of(program, lines)
+    told, last = join.reports.told_of(lines)
     words = last.split(" ")
     refused = int(words[1]) - 1 if words[0] == "line" else None
     number = difference(events, told, len(events) if refused is None else refused - 1)
@@ -845,7 +895,7 @@ def check(nodes, program, disk=None, tries=40):
     agrees is looked for.
     """
     join = joined(nodes, program, disk)
-    verdict = compare(program, join)
+    verdict = compare(join)
     while verdict.name == "differs":
         found = None
         for it in unsure_items(join, verdict):
@@ -857,7 +907,7 @@ def check(nodes, program, disk=None, tries=40):
                 it.reading, it.own, it.at = before
                 it.move(reading)
                 again = joined(nodes, program, disk)
-                found = compare(program, again)
+                found = compare(again)
                 if found.event > verdict.event:
                     break
                 it.reading, it.own, it.at = before
