@@ -3,8 +3,8 @@ ghost use Rattle.st_base.specs.Config.{check};
 ghost use Rattle.st_extents.specs.Layout.{IsWithinLimits};
 
 use st_base::{Config, ServerId, Stamp};
-use st_kept_opening::{Identity, KeptFault, open_server};
-use st_new_file::{Header, KeepFault, Stable, new_file};
+use st_kept_opening::{Identity, KeptFault, Opening, open_server};
+use st_new_file::{Header, KeepFault, MADE_PLACE, Stable, new_file};
 use std::alloc::{AllocError, Global};
 use std::test::Fail;
 
@@ -31,54 +31,81 @@ fn identity() -> Identity
     }
 }
 
-/// The bytes of a file whose areas have 3,000 bytes each, with the stable part of a server that
-/// never began an epoch, and with this mark.
-fn file(alloc: Global, mark: u8) -> Result<Vec<u8>, AllocError> {
-    let stable = Stable::fresh(alloc, ServerId(1), 2, 4, 64)?;
+/// What is written at the beginning of a file whose areas have this many bytes each, for a server
+/// with this stable part.
+fn front(alloc: Global, area: u32, stable: &Stable) -> Result<Vec<u8>, KeepFault> {
     let header = Header {
-        area: 3000,
+        area,
         identity: identity(),
     };
-    let Ok(front) = new_file(alloc, &header, 0, &stable) else {
-        return Err(AllocError);
-    };
-    let mut file = vec![in alloc; 0u8; 6112]?;
-    let count = front.len();
-    if count > 6112 {
-        return Err(AllocError);
+    new_file(alloc, &header, 0, stable)
+}
+
+/// What is written at the beginning of such a file, for a server that never began an epoch.
+fn fresh_front(alloc: Global, area: u32) -> Result<Vec<u8>, KeepFault> {
+    match Stable::fresh(alloc, ServerId(1), 2, 4, 64) {
+        Ok(stable) => front(alloc, area, &stable),
+        Err(_) => Err(KeepFault::Memory),
     }
-    file[..count].copy_from_slice(front.as_slice());
-    file[110] = mark;
+}
+
+/// A file that begins with these bytes, and has this mark.
+fn marked(alloc: Global, front: &[u8], mark: u8) -> Result<Vec<u8>, AllocError> {
+    let mut file = Vec::new(alloc);
+    file.extend_from_slice(front)?;
+    file.resize(6112, 0)?;
+    if let Some(made) = file.get_mut(MADE_PLACE as usize) {
+        *made = mark;
+    }
     Ok(file)
+}
+
+/// The file of a server that never began an epoch. Its areas have 3,000 bytes each, and it has this
+/// mark.
+fn file(alloc: Global, mark: u8) -> Result<Vec<u8>, AllocError> {
+    match fresh_front(alloc, 3000) {
+        Ok(front) => marked(alloc, front.as_slice(), mark),
+        Err(_) => Err(AllocError),
+    }
+}
+
+fn opened(alloc: Global, file: &[u8]) -> Result<Opening, KeptFault> {
+    open_server(alloc, file, &identity(), Stamp(5))
+}
+
+/// The epoch of a server that runs, and tells its change.
+fn epoch_of(opening: &Opening) -> Option<u64> {
+    let node = opening.server.node();
+    if node.running() && opening.server.changed().is_some() {
+        Some(node.stable().epoch.0)
+    } else {
+        None
+    }
 }
 
 #[test]
 fn a_new_file_is_opened_in_the_first_epoch(rt: HostRuntime) -> Result<(), Fail> {
     let alloc = rt.alloc();
     let made = file(alloc, 255)?;
-    let Ok(opened) = open_server(alloc, made.as_slice(), &identity(), Stamp(5)) else {
+    let Ok(opening) = opened(alloc, made.as_slice()) else {
         assert!(rt; false);
         return Ok(());
     };
-    assert!(rt; opened.server.node().running());
-    assert_eq!(rt; opened.server.node().stable().epoch.0, 1);
-    assert!(rt; opened.server.changed().is_some());
-    assert_eq!(rt; opened.journal.waiting(), 0);
+    assert_eq!(rt; epoch_of(&opening), Some(1));
+    assert_eq!(rt; opening.journal.waiting(), 0);
+    Ok(())
+}
+
+#[test]
+fn a_file_with_a_closed_mark_was_not_made(rt: HostRuntime) -> Result<(), Fail> {
+    let alloc = rt.alloc();
     let blank = file(alloc, 0)?;
-    let unmade = open_server(alloc, blank.as_slice(), &identity(), Stamp(5));
-    assert!(rt; matches!(unmade, Err(KeptFault::Unmade)));
+    assert!(rt; matches!(opened(alloc, blank.as_slice()), Err(KeptFault::Unmade)));
     Ok(())
 }
 
 #[test]
 fn a_short_area_is_told(rt: HostRuntime) -> Result<(), Fail> {
-    let alloc = rt.alloc();
-    let stable = Stable::fresh(alloc, ServerId(1), 2, 4, 64)?;
-    let header = Header {
-        area: 100,
-        identity: identity(),
-    };
-    let full = new_file(alloc, &header, 0, &stable);
-    assert!(rt; matches!(full, Err(KeepFault::Full)));
+    assert!(rt; matches!(fresh_front(rt.alloc(), 100), Err(KeepFault::Full)));
     Ok(())
 }
