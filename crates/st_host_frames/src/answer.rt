@@ -39,27 +39,22 @@ pub struct Answered {
     pub(crate) answer: AppAnswer,
 }
 
-/// The answer of a message.
-fn answer_of(message: Message) -> Result<Answered, HostFault>
-    ensures { result ≡ answers.answer_by message.header.from message.body }
-{
-    let Message { header, body } = message;
-    match body {
-        Body::AppDone { op, answer } => Ok(Answered {
-            client: header.from,
-            op,
-            answer,
-        }),
-        _ => Err(HostFault::OtherKind),
-    }
-}
-
 /// Reads the answer of a frame.
 pub(crate) fn read_answer(alloc: Global, frame: &[u8]) -> Result<Answered, HostFault>
     ensures { Gives (λ a. a) result (answer_in frame.now) }
 {
     match read_frame(alloc, frame)? {
-        Ok(message) => answer_of(message),
+        Ok(
+            Message {
+                header,
+                body: Body::AppDone { op, answer },
+            },
+        ) => Ok(Answered {
+            client: header.from,
+            op,
+            answer,
+        }),
+        Ok(_) => Err(HostFault::OtherKind),
         Err(fault) => Err(HostFault::Frame(fault)),
     }
 }

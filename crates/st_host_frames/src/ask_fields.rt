@@ -44,26 +44,6 @@ fn file_of(ask: &TankAsk) -> FileId
     }
 }
 
-fn write_of(alloc: Global, ask: &TankAsk, bytes: &[u8]) -> Result<Ask, HostFault>
-    ensures { Gives (λ x. x) result (measured (Some (asks.Write (specs_of.file_of ask.now) (specs_of.page_of ask.now) bytes.now))) }
-{
-    if bytes.len() != 4_096 {
-        return Err(HostFault::Range);
-    }
-    let page = PageBytes::from_slice(alloc, bytes)?;
-    Ok(Ask::Write(file_of(ask), PageNo(ask.page), page))
-}
-
-fn patch_of(alloc: Global, ask: &TankAsk, bytes: &[u8]) -> Result<Ask, HostFault>
-    ensures { Gives (λ x. x) result (measured (Some (asks.Patch (specs_of.file_of ask.now) (specs_of.page_of ask.now) ask.now.at bytes.now))) }
-{
-    if bytes.len() < 1 || 4_096 < bytes.len() {
-        return Err(HostFault::Range);
-    }
-    let patch = PatchBytes::from_vec(Vec::from_slice(alloc, bytes)?);
-    Ok(Ask::Patch(file_of(ask), PageNo(ask.page), ask.at, patch))
-}
-
 /// The ask on names that a struct means, if it is one.
 #[tactic(auto, unfolding(crate::specs::Asks::name_asked))]
 fn name_ask_of(
@@ -96,15 +76,6 @@ fn name_ask_of(
     }
 }
 
-fn on_names_of(alloc: Global, ask: &TankAsk, bytes: &[u8], other: &[u8]) -> Result<Ask, HostFault>
-    ensures { Gives (λ x. x) result (measured (specs_of.on_names ask.now (specs_of.name_asked ask.now bytes.now other.now))) }
-{
-    match name_ask_of(alloc, ask, bytes, other)? {
-        Some(names) => Ok(Ask::Name(ServerId(ask.server), names)),
-        None => Err(HostFault::Unknown),
-    }
-}
-
 /// The ask that a struct means.
 #[tactic(auto, unfolding(crate::specs::Asks::asked))]
 pub(crate) fn ask_of(
@@ -116,11 +87,26 @@ pub(crate) fn ask_of(
     ensures { Gives (λ x. x) result (measured (specs_of.asked ask.now bytes.now other.now)) }
 {
     match ask.ask {
-        1 => write_of(alloc, ask, bytes),
+        1 => {
+            if bytes.len() != 4_096 {
+                return Err(HostFault::Range);
+            }
+            let page = PageBytes::from_slice(alloc, bytes)?;
+            Ok(Ask::Write(file_of(ask), PageNo(ask.page), page))
+        }
         2 => Ok(Ask::Read(file_of(ask), PageNo(ask.page))),
         3 => Ok(Ask::Sync(file_of(ask))),
         4 => Ok(Ask::Cut(file_of(ask), PageNo(ask.page))),
-        6 => patch_of(alloc, ask, bytes),
-        _ => on_names_of(alloc, ask, bytes, other),
+        6 => {
+            if bytes.len() < 1 || 4_096 < bytes.len() {
+                return Err(HostFault::Range);
+            }
+            let patch = PatchBytes::from_vec(Vec::from_slice(alloc, bytes)?);
+            Ok(Ask::Patch(file_of(ask), PageNo(ask.page), ask.at, patch))
+        }
+        _ => match name_ask_of(alloc, ask, bytes, other)? {
+            Some(names) => Ok(Ask::Name(ServerId(ask.server), names)),
+            None => Err(HostFault::Unknown),
+        },
     }
 }

@@ -7,7 +7,7 @@ ghost use Rattle.st_host_frames.specs.Results.{Gives, NotPut, Wrote};
 use crate::fault::HostFault;
 use crate::frame::read_frame;
 use crate::page_room::write_page;
-use crate::tag::{TankTag, no_tag, tag_shown};
+use crate::tag::TankTag;
 use st_base::{BlockAt, Command};
 use st_messages::{Body, Message};
 use std::alloc::Global;
@@ -38,28 +38,23 @@ pub struct Submitted {
     pub(crate) what: Command,
 }
 
-/// The disk command of a message.
-fn command_of(message: Message) -> Result<Submitted, HostFault>
-    ensures { result ≡ commands.command_by message.header.from message.body }
-{
-    let Message { header, body } = message;
-    match body {
-        Body::Submit { command, at, what } => Ok(Submitted {
-            client: header.from,
-            number: command,
-            at,
-            what,
-        }),
-        _ => Err(HostFault::OtherKind),
-    }
-}
-
 /// Reads the disk command of a frame.
 fn read_submitted(alloc: Global, frame: &[u8]) -> Result<Submitted, HostFault>
     ensures { Gives (λ s. s) result (command_in frame.now) }
 {
     match read_frame(alloc, frame)? {
-        Ok(message) => command_of(message),
+        Ok(
+            Message {
+                header,
+                body: Body::Submit { command, at, what },
+            },
+        ) => Ok(Submitted {
+            client: header.from,
+            number: command,
+            at,
+            what,
+        }),
+        Ok(_) => Err(HostFault::OtherKind),
         Err(fault) => Err(HostFault::Frame(fault)),
     }
 }
@@ -74,12 +69,23 @@ fn number_of(command: &Command) -> u32
     }
 }
 
+/// The tag of a write as a struct, or zeros for a read.
 fn tag_by(command: &Command) -> TankTag
     ensures { result ≡ commands.tag_by command.now }
 {
     match command {
-        Command::Read { .. } => no_tag(),
-        Command::Write { tag, .. } => tag_shown(*tag),
+        Command::Read { .. } => TankTag {
+            birth: 0,
+            ino: 0,
+            page: 0,
+            server: 0,
+        },
+        Command::Write { tag, .. } => TankTag {
+            birth: tag.birth,
+            ino: tag.file.ino,
+            page: tag.page.0,
+            server: tag.file.server.0,
+        },
     }
 }
 

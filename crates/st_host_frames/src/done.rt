@@ -26,16 +26,6 @@ pub struct TankDone {
     pub client: u16,
 }
 
-fn read_of(alloc: Global, tag: TankTag, page: &[u8]) -> Result<DiskResult, HostFault>
-    ensures { Gives (λ x. x) result (ends.measured (Some (results.ReadDone (tag_of tag) page.now))) }
-{
-    if page.len() != 4_096 {
-        return Err(HostFault::Range);
-    }
-    let page = PageBytes::from_slice(alloc, page)?;
-    Ok(DiskResult::ReadDone(tag_of(tag), page))
-}
-
 /// The end that a struct means.
 #[tactic(auto, unfolding(crate::specs::Ends::ended))]
 fn end_of(alloc: Global, done: &TankDone, page: &[u8]) -> Result<DiskResult, HostFault>
@@ -44,7 +34,13 @@ fn end_of(alloc: Global, done: &TankDone, page: &[u8]) -> Result<DiskResult, Hos
     match done.result {
         0 => Ok(DiskResult::Failed),
         1 => Ok(DiskResult::WriteDone),
-        2 => read_of(alloc, done.tag, page),
+        2 => {
+            if page.len() != 4_096 {
+                return Err(HostFault::Range);
+            }
+            let page = PageBytes::from_slice(alloc, page)?;
+            Ok(DiskResult::ReadDone(tag_of(done.tag), page))
+        }
         _ => Err(HostFault::Unknown),
     }
 }

@@ -22,43 +22,23 @@ pub(crate) fn whole_len(bytes: &[u8]) -> Result<usize, FrameFault>
     }
 }
 
-/// Reads the message of a frame.
-fn read_message(alloc: Global, bytes: &[u8]) -> Result<Result<Message, FrameFault>, AllocError>
-    ensures exact { IfOk result (λ r. r ≡ spelled (decoded bytes.now)) }
-    ensures fits { IfOk result (λ r. IfOk r (λ m. fits m ≡ true)) }
-{
-    match decode(alloc, bytes) {
-        Ok(message) => Ok(Ok(message)),
-        Err(CodecRefusal::Memory) => Err(AllocError),
-        Err(refusal) => Ok(Err(FrameFault::Refused(refusal))),
-    }
-}
-
-/// Reads the frame of that many bytes after its length, with which the bytes begin.
-fn read_whole(
-    alloc: Global,
-    bytes: &[u8],
-    len: usize,
-) -> Result<Result<Message, FrameFault>, AllocError>
-    requires within { 4 + len ≤ length bytes.now }
-    ensures exact { IfOk result (λ r. r ≡ received_whole bytes.now len) }
-    ensures fits { IfOk result (λ r. IfOk r (λ m. fits m ≡ true)) }
-{
-    if 4 + len < bytes.len() {
-        return Ok(Err(FrameFault::Extra));
-    }
-    let (_, body) = bytes.split_at(4);
-    read_message(alloc, body)
-}
-
 /// Reads bytes that should be one frame: its message, which fits, or why they aren't one.
 #[tactic(auto, unfolding(crate::specs::Frame::received))]
 pub fn read_frame(alloc: Global, bytes: &[u8]) -> Result<Result<Message, FrameFault>, AllocError>
     ensures exact { IfOk result (λ r. r ≡ received bytes.now) }
     ensures fits { IfOk result (λ r. IfOk r (λ m. fits m ≡ true)) }
 {
-    match whole_len(bytes) {
-        Ok(len) => read_whole(alloc, bytes, len),
-        Err(fault) => Ok(Err(fault)),
+    let len = match whole_len(bytes) {
+        Ok(len) => len,
+        Err(fault) => return Ok(Err(fault)),
+    };
+    if 4 + len < bytes.len() {
+        return Ok(Err(FrameFault::Extra));
+    }
+    let (_, body) = bytes.split_at(4);
+    match decode(alloc, body) {
+        Ok(message) => Ok(Ok(message)),
+        Err(CodecRefusal::Memory) => Err(AllocError),
+        Err(refusal) => Ok(Err(FrameFault::Refused(refusal))),
     }
 }

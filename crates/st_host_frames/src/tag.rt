@@ -27,27 +27,3 @@ pub(crate) fn tag_of(tag: TankTag) -> Tag
         birth: tag.birth,
     }
 }
-
-/// A tag as a struct.
-pub(crate) fn tag_shown(tag: Tag) -> TankTag
-    ensures { result ≡ messages.tag_shown tag }
-{
-    TankTag {
-        birth: tag.birth,
-        ino: tag.file.ino,
-        page: tag.page.0,
-        server: tag.file.server.0,
-    }
-}
-
-/// What is shown if there is no tag.
-pub(crate) fn no_tag() -> TankTag
-    ensures { result ≡ messages.no_tag }
-{
-    TankTag {
-        birth: 0,
-        ino: 0,
-        page: 0,
-        server: 0,
-    }
-}

@@ -24,12 +24,14 @@ pub(crate) fn local_header(node: u16) -> Header
     }
 }
 
-/// The frame of a message that fits: its length in four bytes, and its bytes.
+/// The frame of a message: its length in four bytes, and its bytes.
 #[tactic(auto, unfolding(st_codec_fields::specs::Spelling::word32))]
-fn fitting_frame(alloc: Global, message: &Message) -> Result<Vec<u8>, AllocError>
-    requires { fits message.now ≡ true }
-    ensures { IfOk result (λ v. v.items ≡ message_frame message.now) }
+pub(crate) fn frame_of(alloc: Global, message: &Message) -> Result<Vec<u8>, HostFault>
+    ensures { Gives (λ v. v.items) result (messages.framed message.now) }
 {
+    if !message.fits() {
+        return Err(HostFault::Range);
+    }
     fits_a_frame();
     spelled_size();
     let bytes = encode(alloc, message)?;
@@ -38,16 +40,6 @@ fn fitting_frame(alloc: Global, message: &Message) -> Result<Vec<u8>, AllocError
     frame.extend_from_slice(&length.to_be_bytes())?;
     frame.extend_from_slice(bytes.as_slice())?;
     Ok(frame)
-}
-
-/// The frame of a message.
-pub(crate) fn frame_of(alloc: Global, message: &Message) -> Result<Vec<u8>, HostFault>
-    ensures { Gives (λ v. v.items) result (messages.framed message.now) }
-{
-    if !message.fits() {
-        return Err(HostFault::Range);
-    }
-    Ok(fitting_frame(alloc, message)?)
 }
 
 /// Writes items to the front of a buffer, and returns how many there are.
