@@ -62,48 +62,12 @@ fn put_entry(out: &mut Vec<u8>, dir: u32, name: &Name) -> Result<(), AllocError>
     out.extend_from_slice(name.as_slice())
 }
 
-#[tactic(auto, unfolding(crate::specs::Changes::word16))]
-fn put_allocate(out: &mut Vec<u8>, ino: u32, page: PageNo, count: u16) -> Result<(), AllocError>
-    ensures { OnOk result (out.new.items ≡ out.old.items ++ (2 ∷ (changes.word32 ino ++ changes.word32 page.0 ++ changes.word16 count))) }
-{
-    put_byte(out, 2)?;
-    put_word32(out, ino)?;
-    put_word32(out, page.0)?;
-    out.extend_from_slice(&count.to_be_bytes())
-}
-
-fn put_cut(out: &mut Vec<u8>, ino: u32, from: PageNo) -> Result<(), AllocError>
-    ensures { OnOk result (out.new.items ≡ out.old.items ++ (3 ∷ (changes.word32 ino ++ changes.word32 from.0))) }
-{
-    put_byte(out, 3)?;
-    put_word32(out, ino)?;
-    put_word32(out, from.0)?;
-    Ok(())
-}
-
 fn put_named(out: &mut Vec<u8>, kind: u8, dir: u32, name: &Name) -> Result<(), AllocError>
     requires { length name.now ≤ 255 }
     ensures { OnOk result (out.new.items ≡ out.old.items ++ (kind ∷ changes.entry dir name.now)) }
 {
     put_byte(out, kind)?;
     put_entry(out, dir, name)?;
-    Ok(())
-}
-
-fn put_rename(
-    out: &mut Vec<u8>,
-    dir: u32,
-    name: &Name,
-    dir2: u32,
-    name2: &Name,
-) -> Result<(), AllocError>
-    requires from { length name.now ≤ 255 }
-    requires to { length name2.now ≤ 255 }
-    ensures { OnOk result (out.new.items ≡ out.old.items ++ (7 ∷ (changes.entry dir name.now ++ changes.entry dir2 name2.now))) }
-{
-    put_byte(out, 7)?;
-    put_entry(out, dir, name)?;
-    put_entry(out, dir2, name2)?;
     Ok(())
 }
 
@@ -150,15 +114,24 @@ impl Change {
     }
 
     /// Appends the bytes of the change.
-    #[tactic(auto, unfolding(crate::specs::Changes::bytes_of, crate::specs::Changes::fits))]
+    #[tactic(auto, unfolding(crate::specs::Changes::bytes_of, crate::specs::Changes::fits, crate::specs::Changes::word16))]
     pub(crate) fn put(&self, out: &mut Vec<u8>) -> Result<(), AllocError>
         requires { changes.fits self.now ≡ true }
         ensures { OnOk result (out.new.items ≡ out.old.items ++ changes.bytes_of self.now) }
     {
         match self {
             Change::Epoch => put_byte(out, 1),
-            Change::Allocate { ino, page, count } => put_allocate(out, *ino, *page, *count),
-            Change::Cut { ino, from } => put_cut(out, *ino, *from),
+            Change::Allocate { ino, page, count } => {
+                put_byte(out, 2)?;
+                put_word32(out, *ino)?;
+                put_word32(out, page.0)?;
+                out.extend_from_slice(&count.to_be_bytes())
+            }
+            Change::Cut { ino, from } => {
+                put_byte(out, 3)?;
+                put_word32(out, *ino)?;
+                put_word32(out, from.0)
+            }
             Change::Create { dir, name } => put_named(out, 4, *dir, name),
             Change::Mkdir { dir, name } => put_named(out, 5, *dir, name),
             Change::Remove { dir, name } => put_named(out, 6, *dir, name),
@@ -167,7 +140,11 @@ impl Change {
                 name,
                 dir2,
                 name2,
-            } => put_rename(out, *dir, name, *dir2, name2),
+            } => {
+                put_byte(out, 7)?;
+                put_entry(out, *dir, name)?;
+                put_entry(out, *dir2, name2)
+            }
         }
     }
 }

@@ -19,18 +19,6 @@ fn read_byte(bytes: &[u8]) -> Option<(u8, &[u8])>
     }
 }
 
-#[tactic(auto, unfolding(crate::specs::Decoder::word16_at))]
-fn read_word16(bytes: &[u8]) -> Option<(u16, &[u8])>
-    ensures { option_map (λ x. (x.0, x.1.now)) result ≡ reading.word16_at bytes.now }
-{
-    if bytes.len() < 2 {
-        return None;
-    }
-    let (front, rest) = bytes.split_at(2);
-    let number = u16::from_be_bytes([front[0], front[1]]);
-    Some((number, rest))
-}
-
 #[tactic(auto, unfolding(crate::specs::Decoder::word32_at))]
 pub(crate) fn read_word32(bytes: &[u8]) -> Option<(u32, &[u8])>
     ensures { option_map (λ x. (x.0, x.1.now)) result ≡ reading.word32_at bytes.now }
@@ -71,11 +59,15 @@ fn read_page(bytes: &[u8]) -> Option<(PageNo, &[u8])>
     Some((PageNo(number), rest))
 }
 
-#[tactic(auto, unfolding(crate::specs::Decoder::count_at))]
+#[tactic(auto, unfolding(crate::specs::Decoder::count_at, crate::specs::Decoder::word16_at))]
 fn read_count(page: PageNo, bytes: &[u8]) -> Option<(u16, &[u8])>
     ensures { option_map (λ x. (x.0, x.1.now)) result ≡ reading.count_at page bytes.now }
 {
-    let (count, rest) = read_word16(bytes)?;
+    if bytes.len() < 2 {
+        return None;
+    }
+    let (front, rest) = bytes.split_at(2);
+    let count = u16::from_be_bytes([front[0], front[1]]);
     let is_count = within(1, 64, u32::from(count))
         && u64::from(page.0) + u64::from(count) <= 1_048_576;
     if !is_count {
@@ -84,25 +76,18 @@ fn read_count(page: PageNo, bytes: &[u8]) -> Option<(u16, &[u8])>
     Some((count, rest))
 }
 
-#[tactic(auto, unfolding(crate::specs::Decoder::name_at))]
-fn read_name(bytes: &[u8]) -> Option<(&[u8], &[u8])>
-    ensures { option_map (λ x. (x.0.now, x.1.now)) result ≡ reading.name_at bytes.now }
-{
-    let (len, rest) = read_byte(bytes)?;
-    let len = usize::from(len);
-    if rest.len() < len {
-        return None;
-    }
-    Some(rest.split_at(len))
-}
-
 /// A directory and a name in it.
-#[tactic(auto, unfolding(crate::specs::Decoder::entry_at))]
+#[tactic(auto, unfolding(crate::specs::Decoder::entry_at, crate::specs::Decoder::name_at))]
 fn read_entry(bytes: &[u8]) -> Option<((u32, &[u8]), &[u8])>
     ensures { option_map (λ x. ((x.0.0, x.0.1.now), x.1.now)) result ≡ reading.entry_at bytes.now }
 {
     let (dir, rest) = read_word32(bytes)?;
-    let (name, rest) = read_name(rest)?;
+    let (len, rest) = read_byte(rest)?;
+    let len = usize::from(len);
+    if rest.len() < len {
+        return None;
+    }
+    let (name, rest) = rest.split_at(len);
     Some(((dir, name), rest))
 }
 
