@@ -87,18 +87,6 @@ impl SharedState {
         }
     }
 
-    #[tactic(auto, unfolding(crate::specs::Shared::entered))]
-    fn push_member(&mut self, client: ClientId) -> Result<(), AllocError>
-        ensures ok { OnOk result (self.new ≡ rules.entered self.old client None) }
-        ensures err { OnErr result (self.new ≡ self.old) }
-    {
-        self.members.push(Member {
-            client,
-            running: true,
-        })?;
-        Ok(())
-    }
-
     #[tactic(auto, unfolding(crate::specs::Shared::shared_open))]
     fn enter_unlocked(&mut self, client: ClientId) -> Result<(), SharedRefusal>
         ensures { DoesOrLacks self.old self.new result (rules.enter_unlocked self.old client self.old.holder) }
@@ -107,7 +95,13 @@ impl SharedState {
             return Err(SharedRefusal::Held(holder));
         }
         match self.member(client) {
-            None => Ok(self.push_member(client)?),
+            None => {
+                self.members.push(Member {
+                    client,
+                    running: true,
+                })?;
+                Ok(())
+            }
             Some(_) => Ok(()),
         }
     }
@@ -262,24 +256,17 @@ impl SharedState {
         Ok(n)
     }
 
-    #[tactic(auto, unfolding(crate::specs::Shared::check_page))]
-    fn check_page(&self, page: PageNo) -> Result<(), SharedRefusal>
-        ensures { result ≡ rules.check_page self.now page }
+    /// Refuses a client that may not submit a command, and then a page that the file does not have.
+    #[tactic(auto, unfolding(crate::specs::Shared::check_submit, crate::specs::Shared::both, crate::specs::Shared::check_page))]
+    fn check_submit(&self, client: ClientId, page: PageNo) -> Result<(), SharedRefusal>
+        ensures { result ≡ rules.check_submit self.now client page }
     {
+        self.check_running(client)?;
         if page.0 < self.blocks {
             Ok(())
         } else {
             Err(SharedRefusal::NoPage(page))
         }
-    }
-
-    /// Refuses a client that may not submit a command, and then a page that the file does not have.
-    #[tactic(auto, unfolding(crate::specs::Shared::check_submit, crate::specs::Shared::both))]
-    fn check_submit(&self, client: ClientId, page: PageNo) -> Result<(), SharedRefusal>
-        ensures { result ≡ rules.check_submit self.now client page }
-    {
-        self.check_running(client)?;
-        self.check_page(page)
     }
 
     /// A client writes a page. It returns the number of the command.
@@ -372,15 +359,6 @@ impl SharedState {
         }
     }
 
-    fn found(&self, n: u64) -> SharedAnswer<'_>
-        ensures { shown result ≡ rules.found_answer (sample self.now.disk n) }
-    {
-        match self.disks.sample(n) {
-            None => SharedAnswer::Hard,
-            Some((_, bytes)) => SharedAnswer::Read(bytes),
-        }
-    }
-
     /// What the report of a command is answered.
     pub fn answer(&self, n: u64, ok: bool) -> SharedAnswer<'_>
         ensures { shown result ≡ rules.report_answer self.now n ok }
@@ -391,6 +369,9 @@ impl SharedState {
         if !ok {
             return SharedAnswer::Failed;
         }
-        self.found(n)
+        match self.disks.sample(n) {
+            None => SharedAnswer::Hard,
+            Some((_, bytes)) => SharedAnswer::Read(bytes),
+        }
     }
 }
