@@ -1,5 +1,6 @@
+pub mod Agreeing
+pub mod Events
 pub mod Joining
-pub mod Law
 pub mod Listing
 pub mod Submitting
 pub mod Walking

@@ -105,7 +105,7 @@ module _ (k : Config) (count : ℕ) (past : List Step) (t : Traced) (s : AllHold
         record {
           reads = z.1;
           hold = o.0;
-          safe = subst (FrozenFilesUncut k count sc.world) (sym o.1) (uncut_stays k count past t e sc ranges s.hold took s.safe s.reads.pages.writes.there s.reads.pages.stood.stand.both.writes.commands.counts s.reads.pages.open_ s.reads.pages.stood.clear);
+          safe = subst (FrozenFilesUncut k count sc.world) (sym o.1) (uncut_stays k count past t e sc ranges s.hold took s.safe s.reads.pages.writes.there s.reads.pages.stood.stand.both.writes.commands.counts s.reads.pages.stood.stand.writes.open_ s.reads.pages.stood.clear);
           known = extents.1;
         },
       )

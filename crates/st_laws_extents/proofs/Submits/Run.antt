@@ -44,7 +44,6 @@ use Rattle.st_laws_reads.proofs.AllClients.Runs as reads
 use Rattle.st_laws_reads.proofs.AllClients.Runs.{Kept, Stood, at_first}
 use Rattle.st_laws_reads.proofs.AllClients.Takings.{Takes, takes_event}
 use Rattle.st_laws_pages.specs.Writes.Writes.{OpenHold}
-use Rattle.st_laws_pages.proofs.Writes.Law.{fresh_open, open_step}
 use Rattle.st_laws_reads.specs.FrozenLives.PendingEntries.{FrozenHold}
 use Rattle.st_laws_reads.specs.FrozenLives.Runs.{IsLeft, TakenLeft}
 use Rattle.st_laws_reads.proofs.FrozenLives.Law.{alone, events_keep, first}
@@ -69,7 +68,6 @@ pub record PagesStand (k : Config) (count : ℕ) (past : List Step) (t : Traced)
   pub stood : Stood k count past t
   pub frozen_lives : FrozenHold k count t.world
   pub writes : WritesHold k count t.world
-  pub open_ : OpenHold t.world
   pub last : LastIn t.world t.world.log
   pub pages : PagesHold t.world
 
@@ -112,7 +110,7 @@ module _ (past : List Step) (k : Config) (count : ℕ) (t : Traced) (s : PagesSt
           let r : site.node.running ≡ true = ap site_runs (sym f) ∙ runs in
           let here : sc.world ≡ (ev.crashes_client (counted w) c (Some site)).world = happened ∙ ap (λ o. (ev.crashes_client (counted w) c o).world) f in
           subst (WritesHold k count) (sym here)
-          (writes_fall (known past c.0) k count w c.0 site f r s.writes s.open_ ((s.stood.copies c.0 site f).runs r)
+          (writes_fall (known past c.0) k count w c.0 site f r s.writes s.stood.stand.writes.open_ ((s.stood.copies c.0 site f).runs r)
           (subst (AllStand k count) here (stays k count w (events.Crash (nodes.Client c)) sc s.writes.all is_full took)))
 
   writes_step : (e : Event) (sc : WorldTurn) → IsFull w e → world_step w e ≡ Ok sc → WritesHold k count sc.world
@@ -153,7 +151,7 @@ module _ (past : List Step) (k : Config) (count : ℕ) (t : Traced) (s : PagesSt
     writes_v = writes_step e sc is_full took
 
     open_v : OpenHold sc.world
-    open_v = open_step past t e sc took s.stood.places s.stood.stand s.open_
+    open_v = behind.1.stand.writes.open_
 
     alone_v : FrozenStandAlone sc.world
     alone_v = alone (past ++ st ∷ []) k count sc.world frozen_v behind.1.stand.both.flush
@@ -234,11 +232,11 @@ module _ (past : List Step) (k : Config) (count : ℕ) (t : Traced) (s : PagesSt
     pages_v =
         pages_law w e sc took
         (owed_of (counted w) e gives
-        (server_gives (known past) k count w s.writes s.open_ s.stood.copies s.pages e free uncut))
+        (server_gives (known past) k count w s.writes s.stood.stand.writes.open_ s.stood.copies s.pages e free uncut))
         s.stood.all.fates.lives s.pages
 
     pub next : Kept past st × PagesStand k count (past ++ st ∷ []) (traced_after e t sc)
-    next = (behind.0, record { stood = behind.1; frozen_lives = frozen_v; writes = writes_v; open_ = open_v; last = last_v; pages = pages_v })
+    next = (behind.0, record { stood = behind.1; frozen_lives = frozen_v; writes = writes_v; last = last_v; pages = pages_v })
 
 run : (promise : Promise) → ((k : Config) (count : ℕ) (past : List Step) (t : Traced) (e : Event) (sc : WorldTurn) → Kept past (step t e sc) → PagesStand k count (past ++ step t e sc ∷ []) (traced_after e t sc) → promise past (step t e sc)) → (k : Config) (count : ℕ) (es : List Event) → list_all (is_event count) es ≡ true →
     (past : List Step) (t : Traced) → PagesStand k count past t → Throughout PlacesAfter past (steps es t) → Throughout IsLeft past (steps es t) → Throughout PagesLeft past (steps es t) → Throughout promise past (steps es t)
@@ -290,7 +288,6 @@ module _ (k : base.Config) (clients servers d b form : ℕ) where
         stood = at_first k clients servers d b form head;
         frozen_lives = first k clients servers d b form head;
         writes = fresh_writes head;
-        open_ = fresh_open k clients servers d b form;
         last = fresh_last;
         pages = fresh_holds k clients servers d b form;
       }

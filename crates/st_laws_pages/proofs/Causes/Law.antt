@@ -1,4 +1,4 @@
--- Drops have a cause and hard is hard, at each step and over whole runs, with no premise.
+-- Drops have a cause, hard is hard, and clients list the writes that are not reported: at each step and over whole runs, with no premise.
 use Rattle.st_lemmas.proofs.Words
 use Words.{◌≡◌, ℕ, ◌≤◌, true, subst, List, [], ◌∷◌, ◌++◌, Option, Some, None, Ok, Err, refl, sym, ap, ◌∙◌, arith, Result, length, map, suc}
 use Words.{zero, Config, Event, WorldRefusal, IssuedCommand, DirtyPage, ClientId, list_all}
@@ -37,6 +37,9 @@ use Rattle.st_laws_pages.proofs.Causes.Events.{counted_both, happens_both}
 use Rattle.st_laws_pages.proofs.Causes.FlushSteps.{BothHold}
 use Rattle.st_laws_pages.proofs.Causes.Placed.{PlacesAt, places_at}
 use Rattle.st_laws_pages.proofs.Causes.HardEvents.{AskedHold, AskedSo, happens_left}
+use Rattle.st_laws_pages.specs.Writes.Writes.{ListedAfter, ListsAgree, ListsAgreeAfter, OpenAfter}
+use Rattle.st_laws_pages.proofs.Writes.Agreeing.{lists_agree}
+use Rattle.st_laws_pages.proofs.Writes.Events.{WritesMatch, fresh_match, happens_matched}
 
 fresh_causes : (k : Config) (clients servers d b form : ℕ) → CausesHold [] (fresh_world k clients servers d b form)
 unfolding fresh_world
@@ -96,6 +99,11 @@ pub record Stand (past : List Step) (t : Traced) : Type 0 where
   pub both : BothHold past t.world
   pub causes : CausesHold past t.world
   pub asks : AskedHold past t.world
+  pub writes : WritesMatch t.world
+
+-- so what clients list is what the world has not reported
+pub stand_agrees : (past : List Step) (t : Traced) → Stand past t → ListsAgree t.world
+stand_agrees past t s = lists_agree t.world s.fates.lives s.writes.listed s.writes.open_ s.both.writes.commands
 
 -- One step, in a world whose places are known.
 pub record Left (past : List Step) (t : Traced) (e : Event) (sc : WorldTurn) : Type 0 where
@@ -119,18 +127,27 @@ one_step past t e sc is0 places s = go (adm.refusal t.world e) refl is0
     b : BothHold past u
     b = counted_both past t.world s.both
 
+    match : WritesMatch u
+    match = record { open_ = s.writes.open_; listed = s.writes.listed }
+
     go : (r : Option WorldRefusal) → adm.refusal t.world e ≡ r → ev.world_by t.world e r ≡ Ok sc → Left past t e sc
     go None q is =
         let y : ev.happens u e ≡ sc = ok_is is in
         let c : CausesHold (past ++ step t e sc ∷ []) sc.world = subst (λ (z : WorldTurn). CausesHold (past ++ step t e sc ∷ []) z.world) y
-        (happens_causes past (step t e sc) u e refl (λ k s. refl) (causes_owed past u (length u.servers) e (λ steps w. advance_owed past u steps (ap (adm.refusal u) (sym w) ∙ same q) f b.flush) f pl s.causes.crashes)
+        (happens_causes past (step t e sc) u e refl (λ k s. refl) (causes_owed past u (length u.servers) e (λ steps w. advance_owed past u steps (ap (adm.refusal u) (sym w) ∙ same q) f b.flush (stand_agrees past t s)) f pl s.causes.crashes)
         (record { caused = s.causes.caused; crashes = s.causes.crashes })) in
         let n : BothHold (past ++ step t e sc ∷ []) sc.world = subst (λ (z : WorldTurn). BothHold (past ++ step t e sc ∷ []) z.world) y (happens_both past (step t e sc) u e (length u.servers) (same q) refl f.lives pl b) in
         let h = happens_left past (step t e sc) u e (length u.servers) (same q) refl (ap (λ (z : WorldTurn). z.world) (sym y)) f pl b s.asks in
         record {
           promise = c.caused;
           hard = subst (λ (z : WorldTurn). AtEach (safety.IsHardAt past (step t e sc)) sc.world t.world.log z.seen) y h.hard;
-          stand = record { fates = fates_law t.world e sc is0 s.fates; both = n; causes = c; asks = subst (λ (z : WorldTurn). AskedHold (past ++ step t e sc ∷ []) z.world) y h.asks };
+          stand = record {
+            fates = fates_law t.world e sc is0 s.fates;
+            both = n;
+            causes = c;
+            asks = subst (λ (z : WorldTurn). AskedHold (past ++ step t e sc ∷ []) z.world) y h.asks;
+            writes = subst (λ (z : WorldTurn). WritesMatch z.world) y (happens_matched past u f.lives pl b match e (same q));
+          };
         }
       where
         ok_is : ◌≡◌ {A = Result WorldTurn WorldRefusal} (Ok (ev.happens u e)) (Ok sc) → ev.happens u e ≡ sc
@@ -147,6 +164,19 @@ one_step past t e sc is0 places s = go (adm.refusal t.world e) refl is0
 record Kept (past : List Step) (x : Step) : Type 0 where
   causes : DropsHaveACause past x
   hard : HardIsHard past x
+  open_ : OpenAfter past x
+  listed : ListedAfter past x
+  agree : ListsAgreeAfter past x
+
+kept : (past : List Step) (t : Traced) (e : Event) (sc : WorldTurn) → Left past t e sc → Kept past (step t e sc)
+kept past t e sc z =
+    record {
+      causes = z.promise;
+      hard = z.hard;
+      open_ = z.stand.writes.open_;
+      listed = z.stand.writes.listed;
+      agree = stand_agrees (past ++ step t e sc ∷ []) (traced_after e t sc) z.stand;
+    }
 
 -- a promise that each step keeps is kept throughout
 kept_throughout : (P : Promise) → ((past : List Step) (x : Step) → Kept past x → P past x) → (es : List Event) (past : List Step) (t : Traced) → PlacesHold t.world → Stand past t → Throughout PlacesAfter past (steps es t) → Throughout P past (steps es t)
@@ -157,7 +187,7 @@ kept_throughout P f (e ∷ es) past t pl s o = go (ev.world_step t.world e) refl
     go : (r : Result WorldTurn WorldRefusal) → ev.world_step t.world e ≡ r → Throughout PlacesAfter past (safety.steps_on (steps es) t e r) →
         ((past : List Step) (t : Traced) → PlacesHold t.world → Stand past t → Throughout PlacesAfter past (steps es t) → Throughout P past (steps es t)) → Throughout P past (safety.steps_on (steps es) t e r)
     go (Err r) q o g = tt
-    go (Ok sc) q o g = let z = one_step past t e sc q pl s in (f past (step t e sc) (record { causes = z.promise; hard = z.hard }), g (past ++ step t e sc ∷ []) (traced_after e t sc) o.0 z.stand o.1)
+    go (Ok sc) q o g = let z = one_step past t e sc q pl s in (f past (step t e sc) (kept past t e sc z), g (past ++ step t e sc ∷ []) (traced_after e t sc) o.0 z.stand o.1)
 
 -- The start.
 pub fresh_places : (k : Config) (clients servers d b form : ℕ) → PlacesHold (fresh_world k clients servers d b form)
@@ -206,6 +236,7 @@ fresh_stand k clients servers d b form =
       both = record { flush = fresh_flush k clients servers d b form; writes = fresh_writes k clients servers d b form };
       causes = fresh_causes k clients servers d b form;
       asks = fresh_asks k clients servers d b form;
+      writes = fresh_match k clients servers d b form;
     }
 
 kept_law : (P : Promise) → ((past : List Step) (x : Step) → Kept past x → P past x) → InEveryRun P
@@ -219,3 +250,15 @@ causes_law = kept_law DropsHaveACause (λ past x k. k.causes)
 -- hard is hard, in every run
 pub hard_law : InEveryRun HardIsHard
 hard_law = kept_law HardIsHard (λ past x k. k.hard)
+
+-- open writes of present lives are listed, in every run
+pub open_law : InEveryRun OpenAfter
+open_law = kept_law OpenAfter (λ past x k. k.open_)
+
+-- listed writes are open, in every run
+pub listed_law : InEveryRun ListedAfter
+listed_law = kept_law ListedAfter (λ past x k. k.listed)
+
+-- so the lists and the world agree, in every run
+pub agree_law : InEveryRun ListsAgreeAfter
+agree_law = kept_law ListsAgreeAfter (λ past x k. k.agree)

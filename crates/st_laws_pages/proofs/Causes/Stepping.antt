@@ -8,7 +8,6 @@ use Words.ClientPages as pages
 use Words.ClientPasses as cp
 use Words.ClientReplies as cr
 use Words.Client as cl
-use Words.ClientState as state
 use Words.ClientState.{Association, ClientState, ClientTurn, Turn, client_turn, only_at, server_of}
 use Words.World as world
 use Words.World.{World, WorldClient, numbered, site_of, life_with}

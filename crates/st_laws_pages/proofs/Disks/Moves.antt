@@ -169,7 +169,7 @@ advance_keeps w steps ends h =
     server_is k x at tag bytes c = c.server
 
 -- Crash of a client.
-any_zip : {A B : Type 0} (p : A × B → Bool) (xs : List A) (ys : List B) (n : ℕ) (x : A) (y : B) → slice_get xs n ≡ Some x → slice_get ys n ≡ Some y → p (x, y) ≡ true → list_any p (zip xs ys) ≡ true
+pub any_zip : {A B : Type 0} (p : A × B → Bool) (xs : List A) (ys : List B) (n : ℕ) (x : A) (y : B) → slice_get xs n ≡ Some x → slice_get ys n ≡ Some y → p (x, y) ≡ true → list_any p (zip xs ys) ≡ true
 any_zip p [] ys n x y a b e = cc
 any_zip p (u ∷ us) [] n x y a b e = cc
 any_zip p (u ∷ us) (v ∷ vs) zero x y a b e = or_left (p (u, v)) _ (ap (λ z. p (z, v)) (some_is a) ∙ ap (λ z. p (x, z)) (some_is b) ∙ e)

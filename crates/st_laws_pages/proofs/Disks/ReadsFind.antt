@@ -9,7 +9,6 @@ use Words.Keys.{same_client, same_file, same_page}
 use Words.FlatLog as log
 use Words.FlatLog.{same_owner, owner, content}
 use Words.ClientPages.{found_under}
-use Words.ClientPages as client
 use Words.Disks as disks
 use Words.World.{World, issued_of}
 use Words.Events.{is_hard_fate, is_entry_of, latest, latest_from, latest_at}

@@ -30,6 +30,7 @@ use Rattle.st_laws_pages.specs.Fates.Fates.{PendingAll, BeforeEnd}
 use Rattle.st_laws_steps.specs.Lives.Lives.{NodeHolds}
 use Rattle.st_laws_pages.specs.Disks.Obligations.{FatesHold}
 use Rattle.st_laws_pages.specs.Flush.Flush.{owner_at_page, DirtyHere, LastFailed, Cared, Covered, FlushHold}
+use Rattle.st_laws_pages.specs.Writes.Writes.{ListsAgree, has_write_out}
 use Rattle.st_laws_steps.proofs.Lives.Associations.{own_found}
 use Rattle.st_laws_pages.proofs.Disks.Effects.{or_none}
 use Rattle.st_laws_pages.proofs.Disks.Moves.{clock_is}
@@ -87,7 +88,8 @@ pub record IsLeft (w : World) (steps : List ℕ) (o : LogOwner) : Type 0 where
   pub page : DirtyPage
   pub dirty : pages.dirty_of a.store.pages o.file.ino o.page ≡ Some page
 
-module _ (past : List Step) (w : World) (steps : List ℕ) (r : adm.refusal w (events.Advance steps) ≡ None) (f : FatesHold w) (h : FlushHold past w) where
+module _ (past : List Step) (w : World) (steps : List ℕ) (r : adm.refusal w (events.Advance steps) ≡ None) (f : FatesHold w) (h : FlushHold past w)
+    (agree : ListsAgree w) where
   -- of a life that no crash ended, which is present
   module _ (l : LeaseLife) (p : Present w l) (reached : ev.is_reached w steps l ≡ true) where
     abbrev a : Association
@@ -159,9 +161,9 @@ module _ (past : List Step) (w : World) (steps : List ℕ) (r : adm.refusal w (e
     store_is : cl.store_at (cl.association_with p.site.node.state a.server) ≡ a.store
     store_is = ap cl.store_at found
 
-    -- with a dirty page it was flushed, and no write is outstanding
+    -- with a dirty page it was flushed, and the world has no write out
     flushed : (ino : ℕ) (q : PageNo) (d : DirtyPage) → pages.dirty_of a.store.pages ino q ≡ Some d →
-        (adm.has_flushed w l.client a.server l.end ≡ true) × (list_any pages.is_any_write a.store.commands ≡ false)
+        (adm.has_flushed w l.client a.server l.end ≡ true) × (has_write_out w l.client a.server p.site ≡ false)
     flushed ino q d e =
         let z = two (adm.has_flushed w l.client a.server (cl.lease_end_with p.site.node.state a.server)) (cl.has_write_with p.site.node.state a.server)
         (three p.site.node.running
@@ -170,7 +172,7 @@ module _ (past : List Step) (w : World) (steps : List ℕ) (r : adm.refusal w (e
         (ap (adm.reaches (clock_of w (nodes.Client l.client)) (adm.step_of l.client steps)) end_is ∙ reached)
         (ap (λ (s : pages.Store). cl.is_any s.pages.dirty) store_is ∙
         any a.store.pages.dirty (found_at (pages.is_dirty_of ino q) a.store.pages.dirty d e).1)) in
-        (ap (adm.has_flushed w l.client a.server) (sym end_is) ∙ z.0, ap (λ (s : pages.Store). list_any pages.is_any_write s.commands) (sym store_is) ∙ z.1)
+        (ap (adm.has_flushed w l.client a.server) (sym end_is) ∙ z.0, sym (agree l.client p.site p.there runs a p.has) ∙ z.1)
       where
         any : (xs : List DirtyPage) → Has d xs → cl.is_any xs ≡ true
         any [] i = absurd i
@@ -196,15 +198,19 @@ module _ (past : List Step) (w : World) (steps : List ℕ) (r : adm.refusal w (e
     pub dirty_failed : (ino : ℕ) (q : PageNo) (d : DirtyPage) → pages.dirty_of a.store.pages ino q ≡ Some d → FailedAs past w l.client a ino q d
     dirty_failed ino q d e = go (covered z.0 ino q d e)
       where
-        z : (adm.has_flushed w l.client a.server l.end ≡ true) × (list_any pages.is_any_write a.store.commands ≡ false)
+        z : (adm.has_flushed w l.client a.server l.end ≡ true) × (has_write_out w l.client a.server p.site ≡ false)
         z = flushed ino q d e
+
+        unlisted : list_any pages.is_any_write a.store.commands ≡ false
+        unlisted =
+            ap (λ (s : pages.Store). list_any pages.is_any_write s.commands) (sym store_is) ∙ agree l.client p.site p.there runs a p.has ∙ z.1
 
         written : pages.is_being_written a.store.commands ino q ≡ true → ⊥
         written b = at (some_member_passes (pages.is_write_of ino q) a.store.commands b)
           where
             at : (pc : PageCommand) × Has pc a.store.commands × (pages.is_write_of ino q pc ≡ true) → ⊥
             at (pc, i, k) = not_both (pages.is_write pc.kind) (and_true (pages.is_write pc.kind) _ k).0
-                (none_passes pages.is_any_write a.store.commands z.1 pc i)
+                (none_passes pages.is_any_write a.store.commands unlisted pc i)
 
         failed : (n : Option ℕ) → d.failed ≡ n → is_some n ≡ true → FailedAs past w l.client a ino q d
         failed None f k = cc

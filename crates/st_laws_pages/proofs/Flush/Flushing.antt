@@ -7,7 +7,6 @@ use Words.ClientLease as lease
 use Words.ClientPages as pages
 use Words.ClientPasses as cp
 use Words.Client as cl
-use Words.ClientState as state
 use Words.ClientState.{Association, ClientState, ClientSession, ClientTurn, client_turn, is_at}
 use Words.World as world
 use Words.World.{World, WorldClient, numbered, site_of}

@@ -1,8 +1,8 @@
--- Open writes of present lives are outstanding at their clients, and only those: after every event, and in every run.
+-- Open writes of present lives are outstanding at their clients, and only those, after every event.
 use Rattle.st_lemmas.proofs.Words
-use Words.{◌≡◌, ◌≢◌, ℕ, zero, suc, ◌+◌, ◌⊎◌, Bool, true, false, ◌==◌, List, [], ◌∷◌, ◌++◌, Option, Some, None, Ok, Err, refl, sym, ap, ◌∙◌, subst, inl, inr}
+use Words.{◌≡◌, ◌≢◌, ℕ, zero, suc, ◌+◌, ◌⊎◌, Bool, true, false, ◌==◌, List, [], ◌∷◌, Option, Some, None, Ok, Err, refl, sym, ap, ◌∙◌, subst, inl, inr}
 use Words.{arith, if◌then◌else◌, Result, length, eq-eqb, eqb-true, option_map, Config, ClientId, Life, NodeId, ServerId, Event, Note, Output, ClientInput, DiskCommand}
-use Words.{ServerInput, StepRefusal, WorldRefusal, IssuedCommand, SentMessage}
+use Words.{ServerInput, StepRefusal, IssuedCommand, SentMessage}
 use Words.nodes
 use Words.events
 use Words.notes
@@ -15,12 +15,10 @@ use Words.Client as cl
 use Words.ClientState.{Association}
 use Words.Disks as disks
 use Words.Events as ev
-use Words.Events.{WorldTurn, counted, world_step}
+use Words.Events.{WorldTurn}
 use Words.FlatLog as log
-use Words.History.{Traced, traced, traced_after}
-use Words.Safety as safety
 use Words.Extents.{numbers}
-use Words.Safety.{Promise, Step, Throughout, step, steps}
+use Words.Safety.{Step}
 use Words.Server as server
 use Words.Server.{ServerNode}
 use Words.World as world
@@ -31,22 +29,16 @@ use Words.Numbers.{numbered_below, numbered_has, numbered_other, numbered_own, s
 use Words.Tables.{and_both, and_true, has_map, same_or_not}
 use Words.Truth.{not_both}
 use Rattle.st_rules.specs.declared.node.StepRefusal.TheVariants.{Crashed}
-use Rattle.st_lemmas.proofs.Steps.{step_happens}
 use Rattle.st_laws_pages.specs.Flush.Flush.{NumbersApart, WriteCared}
 use Rattle.st_laws_steps.specs.Lives.Lives.{LivesHold}
 use Rattle.st_laws_steps.specs.Client.Losses.{Fit}
 use Rattle.st_laws_pages.proofs.Disks.Effects.{report_finds, report_is, reported_world}
-use Rattle.st_laws_pages.proofs.Disks.Steps.{counted_fates}
 use Rattle.st_laws_pages.proofs.Disks.Opens.{OpensFrom, StaysOpen, WritesStay, goes_effect, opens_set, set_leaves, writes_effect}
 use Rattle.st_laws_pages.proofs.Disks.Whole.{site_is}
-use Rattle.st_laws_pages.specs.Asks.Law.{InEveryRun, PlacesAfter, PlacesHold}
-use Rattle.st_laws_pages.proofs.Asks.Law.{places_law}
 use Rattle.st_laws_pages.proofs.Asks.Places.{Knows}
-use Rattle.st_laws_pages.proofs.Causes.Events.{counted_both}
 use Rattle.st_laws_pages.proofs.Causes.FlushSteps.{BothHold}
-use Rattle.st_laws_pages.proofs.Causes.Law.{Stand, fresh_places, fresh_stand, one_step}
-use Rattle.st_laws_pages.proofs.Causes.Placed.{InputTells, PlacesAt, places_at, step_placed}
-use Rattle.st_laws_pages.specs.Writes.Writes.{IsOut, ListedAfter, ListedHold, OpenAfter, OpenHold, WritesOnce}
+use Rattle.st_laws_pages.proofs.Causes.Placed.{InputTells, PlacesAt, step_placed}
+use Rattle.st_laws_pages.specs.Writes.Writes.{IsOut, ListedHold, OpenHold, WritesOnce}
 use Rattle.st_laws_pages.proofs.Writes.Joining.{EndsReported, ListedBut, client_listed, client_open, life_low}
 use Rattle.st_laws_pages.proofs.Writes.Submitting.{ToldAsWrites}
 use Rattle.st_laws_pages.proofs.Writes.Walking.{EndedBy}
@@ -386,7 +378,7 @@ module _ (past : List Step) (w : World) (l : LivesHold w) (pl : PlacesAt (length
   none : (n : ℕ) → ⊥ → ⊥
   none n e = e
 
-  happens_matched : (e : Event) → adm.refusal w e ≡ None → WritesMatch (ev.happens w e).world
+  pub happens_matched : (e : Event) → adm.refusal w e ≡ None → WritesMatch (ev.happens w e).world
   unfolding ev.happens ev.ticks ev.asks_at ev.delivers ev.delivers_to ev.loses_message ev.marks ev.effects ev.advances ev.crashes ev.crashes_client
       ev.crashes_server ev.starts ev.starts_client ev.starts_server
   happens_matched (events.Tick (nodes.Client c)) r = at_client c inputs.Tick (site_of w c) refl tt none
@@ -442,34 +434,8 @@ module _ (past : List Step) (w : World) (l : LivesHold w) (pl : PlacesAt (length
       go None = record { open_ = h.open_; listed = h.listed }
       go (Some node) = record { open_ = h.open_; listed = h.listed }
 
--- One step.
-match_step : (past : List Step) (t : Traced) (e : Event) (sc : WorldTurn) → world_step t.world e ≡ Ok sc → PlacesHold t.world → Stand past t →
-    WritesMatch t.world → WritesMatch sc.world
-unfolding adm.refusal adm.refused_delivery adm.clocks_refused adm.flush_missed adm.refused_effect adm.refused_report world.node_of_place adm.missed_by
-match_step past t e sc is places s h =
-    let z = step_happens t.world e sc is in
-    let pl = places_at t.world places in
-    subst (λ (x : WorldTurn). WritesMatch x.world) (sym z.1)
-    (happens_matched past (counted t.world) (counted_fates t.world s.fates).lives (record { count = pl.count; told = pl.told; known = pl.known })
-    (counted_both past t.world s.both) (record { open_ = h.open_; listed = h.listed }) e z.0)
-
--- Every run.
-matched_throughout : (P : Promise) → ((past : List Step) (x : Step) → WritesMatch x.after.world → P past x) →
-    (es : List Event) (past : List Step) (t : Traced) → PlacesHold t.world → Stand past t → WritesMatch t.world → Throughout PlacesAfter past (steps es t) →
-    Throughout P past (steps es t)
-unfolding steps safety.steps_on Throughout
-matched_throughout P g [] past t pl s h o = tt
-matched_throughout P g (e ∷ es) past t pl s h o = go (world_step t.world e) refl o (λ past t. matched_throughout P g es past t)
-  where
-    go : (r : Result WorldTurn WorldRefusal) → world_step t.world e ≡ r → Throughout PlacesAfter past (safety.steps_on (steps es) t e r) →
-        ((past : List Step) (t : Traced) → PlacesHold t.world → Stand past t → WritesMatch t.world → Throughout PlacesAfter past (steps es t) →
-        Throughout P past (steps es t)) → Throughout P past (safety.steps_on (steps es) t e r)
-    go (Err r) q o f = tt
-    go (Ok sc) q o f =
-        let z = match_step past t e sc q pl s h in
-        (g past (step t e sc) z, f (past ++ step t e sc ∷ []) (traced_after e t sc) o.0 (one_step past t e sc q pl s).stand z o.1)
-
-fresh_match : (k : Config) (clients servers d b form : ℕ) → WritesMatch (fresh_world k clients servers d b form)
+-- The start.
+pub fresh_match : (k : Config) (clients servers d b form : ℕ) → WritesMatch (fresh_world k clients servers d b form)
 unfolding fresh_world cl.fresh_client
 fresh_match k clients servers d b form =
     record {
@@ -483,16 +449,3 @@ fresh_match k clients servers d b form =
     none : (j : ℕ) (x : IssuedCommand) → numbered {A = IssuedCommand} [] j ≡ Some x → ⊥
     none zero x e = cc
     none (suc j) x e = cc
-
-match_law : (P : Promise) → ((past : List Step) (x : Step) → WritesMatch x.after.world → P past x) → InEveryRun P
-match_law P g k clients servers d b form es head =
-    matched_throughout P g es [] (traced (fresh_world k clients servers d b form)) (fresh_places k clients servers d b form)
-    (fresh_stand k clients servers d b form) (fresh_match k clients servers d b form) (places_law k clients servers d b form es head)
-
--- open writes of present lives are outstanding, in every run
-pub open_after : InEveryRun OpenAfter
-open_after = match_law OpenAfter (λ past x z. z.open_)
-
--- and outstanding writes are open, in every run
-pub listed_after : InEveryRun ListedAfter
-listed_after = match_law ListedAfter (λ past x z. z.listed)
