@@ -17,24 +17,6 @@ use std::alloc::Global;
 /// The most events of a script.
 const MOST_EVENTS: u64 = 10_000;
 
-/// Reads an event after that many others.
-fn read_event<S: Script>(alloc: Global, done: u64, line: &[u8]) -> Result<Option<S::Event>, Stop>
-    ensures exact { IsRead result (scripts.counted done (S.rules.event (split line.now))) }
-    ensures few { IfOk result (λ e. done < 10000) }
-{
-    match S::event(alloc, line) {
-        Ok(event) => {
-            if done < MOST_EVENTS {
-                Ok(Some(event))
-            } else {
-                Err(Stop::Malformed)
-            }
-        }
-        Err(ReadError::Memory) => Err(Stop::Memory),
-        Err(ReadError::Fault(_)) => Err(Stop::Malformed),
-    }
-}
-
 /// Reads a line after that many events: an event, or none if it is the line `end`.
 #[tactic(auto, unfolding(crate::specs::Scripts::read_line))]
 fn read_line<S: Script>(alloc: Global, done: u64, line: &[u8]) -> Result<Option<S::Event>, Stop>
@@ -46,7 +28,17 @@ fn read_line<S: Script>(alloc: Global, done: u64, line: &[u8]) -> Result<Option<
     } else if is(line, b"end") {
         Ok(None)
     } else {
-        read_event::<S>(alloc, done, line)
+        match S::event(alloc, line) {
+            Ok(event) => {
+                if done < MOST_EVENTS {
+                    Ok(Some(event))
+                } else {
+                    Err(Stop::Malformed)
+                }
+            }
+            Err(ReadError::Memory) => Err(Stop::Memory),
+            Err(ReadError::Fault(_)) => Err(Stop::Malformed),
+        }
     }
 }
 
