@@ -34,9 +34,8 @@ use Rattle.st_laws_pages.specs.Disks.Runs.{PagesAfter}
 use Rattle.st_laws_pages.specs.Disks.World.{PagesHold}
 use Rattle.st_laws_pages.specs.Writes.Writes.{OpenHold}
 use Rattle.st_laws_pages.proofs.Asks.Law.{places_law}
-use Rattle.st_laws_pages.proofs.Causes.Law.{Stand, fresh_places, fresh_stand, one_step}
+use Rattle.st_laws_pages.proofs.Causes.Law.{Stand, fresh_places, fresh_stand, one_step, open_law}
 use Rattle.st_laws_pages.proofs.Disks.Effects.{report_finds}
-use Rattle.st_laws_pages.proofs.Writes.Law.{fresh_open, open_after}
 use Rattle.st_laws_volume.specs.FateMarks.{AreRemembered, FailedWritesAreRemembered}
 use Rattle.st_laws_volume.specs.Logs.{InEveryRun, IsLogOf, IsSame, ask_of, fate_of}
 use Rattle.st_laws_volume.specs.Options.{OnSome}
@@ -688,7 +687,7 @@ failures_begin k clients servers disks blocks form =
           record {
             stand = fresh_stand k clients servers disks blocks form;
             places = fresh_places k clients servers disks blocks form;
-            opens = fresh_open k clients servers disks blocks form;
+            opens = (fresh_stand k clients servers disks blocks form).writes.open_;
             entries = fresh_carried k clients servers disks blocks form;
             ordered = fresh_ordered k clients servers disks blocks form;
             reported = λ j q. cc q;
@@ -710,7 +709,7 @@ known_in k clients servers disks blocks form es head kept pages =
     (throughout_both PagesAfter (λ past x. PlacesHold x.after.world × OpenHold x.after.world) [] (steps es t)
     pages
     (throughout_both (λ past x. PlacesHold x.after.world) (λ past x. OpenHold x.after.world) [] (steps es t)
-    (places_law k clients servers disks blocks form es head) (open_after k clients servers disks blocks form es head))))
+    (places_law k clients servers disks blocks form es head) (open_law k clients servers disks blocks form es head))))
 
 pub failed_writes_are_remembered : EveryRunIsSafe → InEveryRun PagesAfter → InEveryRun FailedWritesAreRemembered
 failed_writes_are_remembered safe pages k clients servers disks blocks form es head events =

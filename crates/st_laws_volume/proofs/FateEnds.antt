@@ -20,6 +20,7 @@ use Words.World.{World, numbered}
 use Rattle.std.proofs.lemmas.Bool.{le-leb}
 use Rattle.st_laws_pages.specs.Disks.Obligations.{FatesHold}
 use Rattle.st_laws_pages.specs.Flush.Flush.{FlushHold, LastFailed}
+use Rattle.st_laws_pages.specs.Writes.Writes.{ListsAgree}
 use Rattle.st_laws_pages.proofs.Drops.Dropping.{reached_alive, reached_crashed, reached_failed}
 use Rattle.st_laws_volume.specs.FateMarks.{AreMarked, AreRemembered, is_crash_of, is_crashed_life}
 use Rattle.st_laws_volume.specs.Logs.{AreSame, IsLogOf, IsSame, fate_of}
@@ -173,7 +174,7 @@ marked_at ended (x ∷ os) (y ∷ es) h (suc n) o e i j c q = marked_at ended os
 
 -- An advance.
 module _ (past : List Step) (w : World) (increments : List ℕ) (r : adm.refusal (counted w) (events.Advance increments) ≡ None) (f : FatesHold (counted w))
-    (flush : FlushHold past (counted w)) (v : Volume) (a : IsLogOf w.log v) (marked : AreMarked w.ended w.log v.log) (remembered : AreRemembered past w v) where
+    (flush : FlushHold past (counted w)) (agree : ListsAgree (counted w)) (v : Volume) (a : IsLogOf w.log v) (marked : AreMarked w.ended w.log v.log) (remembered : AreRemembered past w v) where
   module _ (l : LeaseLife) (i : Has l (ev.lives_reached (counted w) increments)) (n : ℕ) (o : LogEntry) (e : Entry) (at : slice_get w.log n ≡ Some o)
       (there : slice_get v.log n ≡ Some e) (s : IsSame o e) (p : o.fate ≡ fates.Pending) (its : ev.is_of_life_over l 0 o.of ≡ true) where
     record OfLife : Type 0 where
@@ -198,14 +199,14 @@ module _ (past : List Step) (w : World) (increments : List ℕ) (r : adm.refusal
     by_crash : l.crashed ≡ true → e.crashed ≡ true
     by_crash q =
         marked_at w.ended w.log v.log marked n o e at there change
-        (some_passes (is_crash_of o.of) w.ended l (reached_crashed past (counted w) increments r f flush l i q)
+        (some_passes (is_crash_of o.of) w.ended l (reached_crashed past (counted w) increments r f flush agree l i q)
         (and_both l.crashed (ev.is_of_life_over l 0 o.of) q its))
 
     -- or its client was told of a failed write
     module _ (q : l.crashed ≡ false) where
       failed : (number : ℕ) × LastFailed past w.commands w.log o.of number
       failed = pending_at (λ k. ev.is_of_life_over l 0 k ≡ true → (number : ℕ) × LastFailed past w.commands w.log k number) w.log o (get_has w.log n o at)
-          (reached_failed past (counted w) increments r f flush l i q) p its
+          (reached_failed past (counted w) increments r f flush agree l i q) p its
 
       spared : (b : Bool) → is_crashed_life w.ended o.of ≡ b → b ≡ false
       spared false c = refl
@@ -216,7 +217,7 @@ module _ (past : List Step) (w : World) (increments : List ℕ) (r : adm.refusal
               let b = and_true x.crashed (ev.is_of_life_over x 0 o.of) z in
               let y = and_true (same_client o.of.client x.client) (same_server o.of.file.server x.server && (o.of.life.0 == x.life.0)) b.1 in
               let u = and_true (same_server o.of.file.server x.server) (o.of.life.0 == x.life.0) y.1 in
-              reached_alive past (counted w) increments r f flush l i q x j b.0
+              reached_alive past (counted w) increments r f flush agree l i q x j b.0
               (ap (λ n. record { 0 = n }) (sym (eqb-true o.of.client.0 x.client.0 y.0)) ∙ sym of_life.client)
               (ap (λ n. record { 0 = n }) (sym (eqb-true o.of.file.server.0 x.server.0 u.0)) ∙ sym of_life.server)
               (ap (λ n. record { 0 = n }) (sym (eqb-true o.of.life.0 x.life.0 u.1)) ∙ sym of_life.life)

@@ -15,6 +15,7 @@ use Rattle.st_promises.specs.Safe.{EveryRunIsSafe, IsSafeRun}
 use Rattle.st_laws_pages.specs.Disks.Obligations.{FatesHold}
 use Rattle.st_laws_pages.specs.Disks.Runs.{PagesAfter}
 use Rattle.st_laws_pages.proofs.Causes.Events.{counted_both}
+use Rattle.st_laws_pages.proofs.Causes.Law.{stand_agrees}
 use Rattle.st_laws_pages.proofs.Disks.Steps.{counted_fates}
 use Rattle.st_laws_pages.proofs.Disks.Whole.{fates_law}
 use Rattle.st_laws_volume.specs.FateMarks.{AreRemembered}
@@ -63,7 +64,7 @@ module _ (past : List Step) (t : Traced) (e : Event) (sc : WorldTurn) (happened 
       adm.missed_by
   advance increments r =
       all_are_taken is_fate (of_lines w (ev.advances (counted w) increments).seen) v
-      (taken_some _ (advance_lines past w increments r (counted_fates w b.stand.fates) (counted_both past w b.stand.both).flush v a marked remembered))
+      (taken_some _ (advance_lines past w increments r (counted_fates w b.stand.fates) (counted_both past w b.stand.both).flush (stand_agrees past t b.stand) v a marked remembered))
 
   -- other events give no fates
   other : (f : Event) → gives_fates f ≡ false → Taken f (happens (counted w) f)

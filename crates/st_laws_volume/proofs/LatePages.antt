@@ -38,10 +38,11 @@ use Rattle.st_laws_steps.specs.Lives.Lives.{LivesHold}
 use Rattle.st_laws_steps.proofs.Lives.Associations.{own_found}
 use Rattle.st_laws_pages.specs.Asks.Law.{PlacesHold}
 use Rattle.st_laws_pages.specs.Disks.Obligations.{FatesHold}
+use Rattle.st_laws_pages.specs.Writes.Writes.{ListsAgree}
 use Rattle.st_laws_pages.proofs.Asks.Law.{places_law}
 use Rattle.st_laws_pages.proofs.Causes.Events.{counted_both}
 use Rattle.st_laws_pages.proofs.Causes.FlushSteps.{BothHold}
-use Rattle.st_laws_pages.proofs.Causes.Law.{Stand, fresh_places, fresh_stand, one_step}
+use Rattle.st_laws_pages.proofs.Causes.Law.{Stand, fresh_places, fresh_stand, one_step, stand_agrees}
 use Rattle.st_laws_pages.proofs.Disks.Effects.{report_finds, report_is, reported_world}
 use Rattle.st_laws_pages.proofs.Disks.Moves.{clock_is}
 use Rattle.st_laws_pages.proofs.Disks.Steps.{counted_fates}
@@ -187,10 +188,10 @@ started w c site there h d y e r a i over ino p page q = go (own_or_other w c d 
         absurd (no (sym (ap (λ (b : Association). is_ended y.node.state.config (clock_of w (nodes.Client d)) b.session) z.2) ∙ over))
 
 -- An advance: what gets late has failed.
-advanced : (past : List Step) (w : World) (steps : List ℕ) → adm.refusal w (events.Advance steps) ≡ None → FatesHold w → BothHold past w → LateFailed w →
-    LateFailed (ev.advances w steps).world
+advanced : (past : List Step) (w : World) (steps : List ℕ) → adm.refusal w (events.Advance steps) ≡ None → FatesHold w → BothHold past w → ListsAgree w →
+    LateFailed w → LateFailed (ev.advances w steps).world
 unfolding ev.advances ev.marks
-advanced past w steps refused fates both h c site there runs a i over ino p page q = by a.session refl over
+advanced past w steps refused fates both agree h c site there runs a i over ino p page q = by a.session refl over
   where
     clock : (clock_of (ev.with_clocks steps w) (nodes.Client c)).0 ≡ (clock_of w (nodes.Client c)).0 + adm.step_of c steps
     clock = let m = fates.lives.lives.sites c site there in clock_is w steps c m.clock m.ticks
@@ -249,7 +250,7 @@ advanced past w steps refused fates both h c site there runs a i over ino p page
         HasFailed a page
     was s e true b o = h c site there runs a i b ino p page q
     was s e false b o =
-        let x = dirty_failed past w steps refused fates both.flush l present reached ino p page q in ((x.0, (x.1, x.2.first)), none s e b o)
+        let x = dirty_failed past w steps refused fates both.flush agree l present reached ino p page q in ((x.0, (x.1, x.2.first)), none s e b o)
       where
         end : ℕ
         end = (lease.end_of site.node.state.config s.lease).0
@@ -279,7 +280,7 @@ advanced past w steps refused fates both h c site there runs a i over ino p page
         (sym (ap (is_ended site.node.state.config (clock_of (ev.with_clocks steps w) (nodes.Client c))) e) ∙ o)
 
 -- Every event.
-module _ (past : List Step) (w : World) (f : FatesHold w) (b : BothHold past w) (h : LateFailed w) where
+module _ (past : List Step) (w : World) (f : FatesHold w) (b : BothHold past w) (agree : ListsAgree w) (h : LateFailed w) where
   at_client : (c : ClientId) (input : ClientInput) (o : Option WorldClient) → site_of w c ≡ o → LateFailed (ev.at_client w c input o).world
   unfolding ev.at_client
   at_client c input None e = h
@@ -349,7 +350,7 @@ module _ (past : List Step) (w : World) (f : FatesHold w) (b : BothHold past w) 
       go (Some m) = h
   happens_late (events.Cut from to) r = h
   happens_late (events.Heal from to) r = h
-  happens_late (events.Advance steps) r = advanced past w steps r f b h
+  happens_late (events.Advance steps) r = advanced past w steps r f b agree h
   happens_late (events.Effect k) r = h
   happens_late (events.Report k ok) r = report_late k ok r
   happens_late (events.Crash (nodes.Client c)) r = go (site_of w c) refl
@@ -380,7 +381,7 @@ unfolding adm.refusal adm.refused_delivery adm.clocks_refused adm.flush_missed a
 late_on past t e sc is s h =
     let z = step_happens t.world e sc is in
     subst (λ (x : WorldTurn). LateFailed x.world) (sym z.1)
-    (happens_late past (counted t.world) (counted_fates t.world s.fates) (counted_both past t.world s.both) h e z.0)
+    (happens_late past (counted t.world) (counted_fates t.world s.fates) (counted_both past t.world s.both) (stand_agrees past t s) h e z.0)
 
 -- At the start no client has a session.
 pub late_begins : (k : Config) (count servers d b form : ℕ) → LateFailed (fresh_world k count servers d b form)

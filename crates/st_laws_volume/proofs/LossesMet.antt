@@ -34,8 +34,10 @@ use Rattle.st_laws_steps.specs.Client.Losses.{Fit, is_ended}
 use Rattle.st_laws_pages.specs.Disks.Obligations.{FatesHold}
 use Rattle.st_laws_pages.specs.Disks.Runs.{PagesAfter}
 use Rattle.st_laws_pages.specs.Flush.Flush.{FlushHold}
+use Rattle.st_laws_pages.specs.Writes.Writes.{ListsAgree}
 use Rattle.st_laws_pages.proofs.Asks.World.{asks_more, asks_of}
 use Rattle.st_laws_pages.proofs.Causes.Events.{counted_both}
+use Rattle.st_laws_pages.proofs.Causes.Law.{stand_agrees}
 use Rattle.st_laws_pages.proofs.Disks.Steps.{counted_fates}
 use Rattle.st_laws_pages.proofs.Disks.Whole.{fates_law}
 use Rattle.st_laws_pages.proofs.Drops.Dropping.{IsLeft, reached_crashed, reached_left}
@@ -573,16 +575,19 @@ module _ (past : List Step) (t : Traced) (e : Event) (sc : WorldTurn) (happened 
           flush_now : FlushHold past (counted w)
           flush_now = (counted_both past w b.stand.both).flush
 
+          agree : ListsAgree (counted w)
+          agree = stand_agrees past t b.stand
+
           go : (y : Bool) → l.crashed ≡ y → IsMetAfter o.of f
           go true y =
               inl (both.keeps.crashed
               (marked_at w.ended w.log v.log marked n o g both.at both.before (both.same.change (ap log.is_pending p))
-              (some_passes (is_crashing o.of) w.ended l (reached_crashed past (counted w) increments refused fates_now flush_now l i y)
+              (some_passes (is_crashing o.of) w.ended l (reached_crashed past (counted w) increments refused fates_now flush_now agree l i y)
               (and_both l.crashed (ev.is_of_life_over l 0 o.of) y z))))
           go false y =
               inr (inr (inr (late o.of
               (pending_at (λ k. ev.is_of_life_over l 0 k ≡ true → IsLeft (counted w) increments k) w.log o (get_has w.log n o both.at)
-              (reached_left past (counted w) increments refused fates_now flush_now l i y) p z))))
+              (reached_left past (counted w) increments refused fates_now flush_now agree l i y) p z))))
 
   -- Any event.
   pub met_after : AreLossesTold past x' [] sc.seen → IsLogTold sc.world w.log sc.seen → OnSome Wanted (run (steps_of it v x') v)
