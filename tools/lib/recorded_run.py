@@ -811,8 +811,8 @@ class Played:
 
 
 class Reports:
-    """What is told of the events of schedules: of the first 100,000 by the program, and of later
-    ones, which no schedule for the program has, by reference/.
+    """The reports of schedules. The program reports the first 100,000 events, and reference/ later
+    ones, since no schedule for the program has more.
     """
 
     def __init__(self, program):

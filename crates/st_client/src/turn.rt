@@ -48,8 +48,8 @@ fn put_back(
 }
 
 impl ClientTurn {
-    /// A rule at the association at a place, which stays there. Most rules do nothing at most places,
-    /// so it stays out of the loop over places.
+    /// A rule at the association at a place, which stays there. Most rules do nothing at most
+    /// places, so it isn't inlined into the loop over places.
     #[inline(never)]
     fn at_place<R: Rule>(self, rule: &R, place: usize) -> Result<ClientTurn, AllocError>
         requires within { place < length self.state.associations }

@@ -88,12 +88,7 @@ kept_life c number b x =
     of_state (states.Live last old) = refl
     of_state states.Ended = refl
 
--- Clients that are served.
-
-same_client : (c d : ClientId) → c.0 ≡ d.0 → c ≡ d
-same_client c d e = ap (λ n. record { 0 = n }) e
-
--- by the same look-up
+-- Clients that are served: by the same look-up
 served_as : (v w : Sessions) (c : ClientId) → session_of w c ≡ session_of v c → HasSession v c → HasSession w c
 served_as v w c e h = record { session = h.session; is = e ∙ h.is; live = h.live }
 

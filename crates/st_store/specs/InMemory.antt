@@ -133,12 +133,6 @@ stopped_unrecorded s = record s { plan = plans.halted (plans.failed (plans.count
 abbrev pub changed : InMemory → Contents → InMemory
 changed s contents = record s { contents = contents }
 
--- the store stops when its contents have changed so, or found no memory for that
-abbrev pub StopsBehind : InMemory → InMemory → Contents → ℕ → Type 0
-StopsBehind old new next byte =
-    (new ≡ record old { contents = with_fill next byte; plan = plans.halted (plans.failed old.plan) })
-    ⊎ (new ≡ record old { plan = plans.halted (plans.failed old.plan); starved = true })
-
 -- A read works and changes nothing; or it fails; or the store stops.
 abbrev pub ReadBy : Outcome → InMemory → InMemory → Result Unit Failed → Type 0
 ReadBy Works old new (Ok done) = new ≡ counted old
