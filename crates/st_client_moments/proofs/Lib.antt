@@ -1,0 +1,4 @@
+pub mod SpanMoments
+pub mod Given
+pub mod SomethingToAsk
+pub mod Crashed

@@ -1,0 +1,2 @@
+-- The first moment of several spans that a clock may read.
+pub mod FirstMoments
