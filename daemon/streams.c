@@ -14,6 +14,7 @@
 
 enum {
     OUT_MOST = 4 << 20,    /* while more bytes wait to be sent, nothing is read */
+    HELD_MOST = 1024,      /* and while it has more asks under way */
     WAITING = 64,          /* connections that wait to be accepted */
     PATIENCE_MOST = 60000, /* milliseconds */
     HOST_FLAGS = X509_CHECK_FLAG_NO_WILDCARDS | X509_CHECK_FLAG_NEVER_CHECK_SUBJECT,
@@ -90,7 +91,8 @@ static void happened(struct bufferevent *pipe, short what, void *stream) {
 static void give(struct stream *it) {
     struct evbuffer *out = bufferevent_get_output(it->pipe);
     short enabled = bufferevent_get_enabled(it->pipe);
-    if (evbuffer_get_length(out) > OUT_MOST) bufferevent_disable(it->pipe, EV_READ);
+    bool is_full = evbuffer_get_length(out) > OUT_MOST || it->held > HELD_MOST;
+    if (is_full) bufferevent_disable(it->pipe, EV_READ);
     else if (!(enabled & EV_READ)) bufferevent_enable(it->pipe, EV_READ);
     if (!evbuffer_get_length(out) || enabled & EV_WRITE) return;
     evbuffer_unfreeze(out, true);
