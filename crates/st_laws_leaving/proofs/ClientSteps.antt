@@ -33,7 +33,7 @@ use Rattle.st_laws_third.proofs.Leaving.{loses, takes_leave}
 use Rattle.st_laws_third.proofs.Pairs as paired
 use Rattle.st_laws_third.proofs.Passing.{passes_change}
 use Rattle.st_laws_third.proofs.Receiving.{receives}
-use Rattle.st_laws_leaving.specs.Going.{AllNumbered, Apart, AtLeft, ClientGoes, ClientsAreCalmUntilTheyAsk, EpochOf, HeardFrom, IsNumbered, IsWelcomed, LeftsOf, OfMessage, OfSession, SentWell, Unasked, Went}
+use Rattle.st_laws_leaving.specs.Going.{AllNumbered, Apart, AtLeft, ClientGoes, ClientsAreCalmUntilTheyAsk, EpochOf, HasBegunBy, HeardFrom, IsNumbered, IsWelcomed, LeftsOf, OfMessage, OfSession, SentWell, Unasked, Went}
 use Rattle.st_laws_leaving.proofs.Going.{Goes, LeftWord, LeftsAt, at_left_then, changes_go, finishes_go, goes_still, loses_go, passes_go, same_leaves, went_then}
 
 -- What was heard may be more.
@@ -48,21 +48,24 @@ module _ (got : Heard) where
         server = w.server;
         life = w.life;
         numbered = w.numbered;
-        sent = λ m h t. let z = w.sent m h t in record { since = z.since; until = z.until; epoch = from m z.epoch };
+        sent = λ m h t. let z = w.sent m h t in record { since = z.since; until = z.until; epoch = from m z.epoch; begun = from_begun m z.begun };
         epoch = λ u e. epoch_wider a u.epoch.0 (w.epoch u e);
         calm = w.calm;
         unasked = w.unasked;
-        begun = λ u e. begun (w.begun u e);
+        begun = λ u e. begun b.life.0 (w.begun u e);
       }
     where
       from : (m : Message) → (m.body ≡ bodies.Hello) ⊎ (EpochOf None a m.header.epoch) → (m.body ≡ bodies.Hello) ⊎ (EpochOf got a m.header.epoch)
       from m (inl e) = inl e
       from m (inr e) = inr (epoch_wider a m.header.epoch e)
 
-      begun : (((s : ClientSession) × (a.session ≡ Some s)) × (b.life.0 ≡ a.life.0)) ⊎ (IsWelcomed None a.server b.life.0) →
-          (((s : ClientSession) × (a.session ≡ Some s)) × (b.life.0 ≡ a.life.0)) ⊎ (IsWelcomed got a.server b.life.0)
-      begun (inl z) = inl z
-      begun (inr z) = absurd (none_not_some _ z.heard.0)
+      begun : (life : ℕ) → HasBegunBy None a life → HasBegunBy got a life
+      begun life (inl z) = inl z
+      begun life (inr z) = absurd (none_not_some _ z.heard.0)
+
+      from_begun : (m : Message) → (m.body ≡ bodies.Hello) ⊎ (HasBegunBy None a m.header.life) → (m.body ≡ bodies.Hello) ⊎ (HasBegunBy got a m.header.life)
+      from_begun m (inl e) = inl e
+      from_begun m (inr z) = inr (begun m.header.life z)
 
   pending_wider : (ls ms : List Leave) → ArePending None ls ms → ArePending got ls ms
   pending_wider ls ms p l h = go (p l h)

@@ -33,7 +33,7 @@ use Rattle.st_laws_third.specs.Changes.{ArePending, ThirdChange, Plainly, Says, 
 use Rattle.st_laws_third.specs.Changes.{ThirdChanges, Still, Then, ThirdFinishes, ThirdLeaves, HasLeft, Stays, ThirdLoses, IsLost, Lasts, ThirdPasses, with_plain}
 use Rattle.st_laws_third.proofs.Facts.{SaysMore, WordRight, change_says, change_third}
 use Rattle.st_laws_third.proofs.Stepping.{same_session}
-use Rattle.st_laws_leaving.specs.Going.{AtLeft, EpochOf, IsNumbered, IsWelcomed, OfMessage, OfSession, SentWell, Unasked, Went}
+use Rattle.st_laws_leaving.specs.Going.{AtLeft, EpochOf, HasBegunBy, IsNumbered, IsWelcomed, OfMessage, OfSession, SentWell, Unasked, Went}
 use Rattle.st_laws_leaving.specs.Serving.{IsCalm}
 
 module _ (got : Heard) where
@@ -185,6 +185,20 @@ module _ (got : Heard) where
   epoch_then a b os epoch w (OfSession s e q) = subst (EpochOf got a) q (w.epoch s e)
   epoch_then a b os epoch w (OfMessage m h q) = OfMessage m (h.0, h.1 ∙ ap (λ (z : ServerId). server_node z) w.server) q
 
+  begun_then : (a b : Association) (os : List ThirdOutput) (life : ℕ) → Went got a os b → HasBegunBy got b life → HasBegunBy got a life
+  begun_then a b os life w (inl z) = at (w.begun z.0.0 z.0.1)
+    where
+      at : HasBegunBy got a b.life.0 → HasBegunBy got a life
+      at (inl y) = inl (y.0, z.1 ∙ y.1)
+      at (inr y) = inr (record { message = y.message; heard = y.heard; welcome = y.welcome; of_life = y.of_life ∙ sym z.1 })
+  begun_then a b os life w (inr z) =
+      inr (record {
+        message = z.message;
+        heard = (z.heard.0, z.heard.1 ∙ ap (λ (x : ServerId). server_node x) w.server);
+        welcome = z.welcome;
+        of_life = z.of_life;
+      })
+
   -- one after another
   pub went_then : (a b c : Association) (os ps : List ThirdOutput) → Went got a os b → Went got b ps c → Went got a (os ++ ps) c
   went_then a b c os ps p q =
@@ -198,7 +212,7 @@ module _ (got : Heard) where
         epoch = λ u e. epoch_then a b os u.epoch.0 p (q.epoch u e);
         calm = λ z m h t l. calm z m t l (has_append os ps (says.Plain (outputs.Send m)) h);
         unasked = λ z e. p.unasked (q.unasked z (omega (arith, e, x, y))) (omega (arith, e, x, y));
-        begun = λ u e. begun (q.begun u e);
+        begun = λ u e. begun_then a b os c.life.0 p (q.begun u e);
       }
     where
       to_b : (m : Message) → m.header.to ≡ server_node a.server → m.header.to ≡ server_node b.server
@@ -206,10 +220,16 @@ module _ (got : Heard) where
 
       sent : (m : Message) → m.header.to ≡ server_node a.server → (SentIn os m) ⊎ (SentIn ps m) → SentWell got a c m
       sent m t (inl h) =
-          let z = p.sent m h t in let u = z.until in let y = q.life in record { since = z.since; until = omega (arith, u, y); epoch = z.epoch }
+          let z = p.sent m h t in let u = z.until in let y = q.life in
+          record { since = z.since; until = omega (arith, u, y); epoch = z.epoch; begun = z.begun }
       sent m t (inr h) =
-          let z = q.sent m h (to_b m t) in let u = z.since in let x = p.life in record { since = omega (arith, u, x); until = z.until; epoch = from z.epoch }
+          let z = q.sent m h (to_b m t) in let u = z.since in let x = p.life in
+          record { since = omega (arith, u, x); until = z.until; epoch = from z.epoch; begun = begun_in z.begun }
         where
+          begun_in : (m.body ≡ bodies.Hello) ⊎ (HasBegunBy got b m.header.life) → (m.body ≡ bodies.Hello) ⊎ (HasBegunBy got a m.header.life)
+          begun_in (inl e) = inl e
+          begun_in (inr z) = inr (begun_then a b os m.header.life p z)
+
           from : (m.body ≡ bodies.Hello) ⊎ (EpochOf got b m.header.epoch) → (m.body ≡ bodies.Hello) ⊎ (EpochOf got a m.header.epoch)
           from (inl e) = inl e
           from (inr e) = inr (epoch_then a b os m.header.epoch p e)
@@ -221,18 +241,6 @@ module _ (got : Heard) where
           let y = q.life in
           let e : b.life.0 ≡ c.life.0 = omega (arith, u, y, l) in
           p.calm (q.unasked z (sym e)) m h t (l ∙ sym e)
-
-      begun : (((s : ClientSession) × (b.session ≡ Some s)) × (c.life.0 ≡ b.life.0)) ⊎ (IsWelcomed got b.server c.life.0) →
-          (((s : ClientSession) × (a.session ≡ Some s)) × (c.life.0 ≡ a.life.0)) ⊎ (IsWelcomed got a.server c.life.0)
-      begun (inl z) = at (p.begun z.0.0 z.0.1)
-        where
-          at : (((s : ClientSession) × (a.session ≡ Some s)) × (b.life.0 ≡ a.life.0)) ⊎ (IsWelcomed got a.server b.life.0) →
-              (((s : ClientSession) × (a.session ≡ Some s)) × (c.life.0 ≡ a.life.0)) ⊎ (IsWelcomed got a.server c.life.0)
-          at (inl y) = inl (y.0, z.1 ∙ y.1)
-          at (inr y) = inr (record { message = y.message; heard = y.heard; welcome = y.welcome; of_life = y.of_life ∙ sym z.1 })
-      begun (inr z) =
-          inr (record
-          { message = z.message; heard = (z.heard.0, z.heard.1 ∙ ap (λ (x : ServerId). server_node x) p.server); welcome = z.welcome; of_life = z.of_life })
 
   -- a session that changes by itself, in the same life
   went_on : (a b : Association) → b.server ≡ a.server → b.life ≡ a.life → SessionOn a b.session → Went got a [] b
@@ -249,8 +257,7 @@ module _ (got : Heard) where
         begun = λ u q. at (o.begun u q);
       }
     where
-      at : ((s : ClientSession) × (a.session ≡ Some s)) ⊎ (IsWelcomed got a.server a.life.0) →
-          (((s : ClientSession) × (a.session ≡ Some s)) × (b.life.0 ≡ a.life.0)) ⊎ (IsWelcomed got a.server b.life.0)
+      at : ((s : ClientSession) × (a.session ≡ Some s)) ⊎ (IsWelcomed got a.server a.life.0) → HasBegunBy got a b.life.0
       at (inl z) = inl (z, ap (λ (x : Life). x.0) l)
       at (inr z) = inr (subst (IsWelcomed got a.server) (sym (ap (λ (x : Life). x.0) l)) z)
 
@@ -274,9 +281,10 @@ module _ (got : Heard) where
     A = t.plain.here
 
     message : (m : Message) → Sends t.plain m → SentWell got A A m
-    message _ (Greets stamp) = record { since = omega arith; until = omega arith; epoch = inl refl }
-    message _ (Sees s ino g e) = record { since = omega arith; until = omega arith; epoch = inr (OfSession s e refl) }
-    message _ (Asks s q stamp e f) = record { since = omega arith; until = omega arith; epoch = inr (OfSession s e refl) }
+    message _ (Greets stamp) = record { since = omega arith; until = omega arith; epoch = inl refl; begun = inl refl }
+    message _ (Sees s ino g e) = record { since = omega arith; until = omega arith; epoch = inr (OfSession s e refl); begun = inr (inl ((s, e), refl)) }
+    message _ (Asks s q stamp e f) =
+        record { since = omega arith; until = omega arith; epoch = inr (OfSession s e refl); begun = inr (inl ((s, e), refl)) }
 
     calm_message : (m : Message) → Sends t.plain m → Unasked (session t) → IsCalm m.body
     calm_message _ (Greets stamp) x = tt

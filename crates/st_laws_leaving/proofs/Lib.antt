@@ -1,21 +1,21 @@
-mod ServedClients
+pub mod ServedClients
 mod QuietClients
 mod BegunSessions
 mod Going
-mod ClientSteps
-mod Posts
-mod Betweens
-mod TakesStanding
-mod ServesStanding
-mod BeginsStanding
-mod Standing
-mod StandingRuns
+pub mod ClientSteps
+pub mod Posts
+pub mod Betweens
+pub mod TakesStanding
+pub mod ServesStanding
+pub mod BeginsStanding
+pub mod Standing
+pub mod StandingRuns
 mod Along
 mod TakesGone
 mod Asked
 mod Leavers
 mod LeaverRuns
 mod Greeted
-mod Homes
+pub mod Homes
 mod GreetsBack
 mod WhoLeft

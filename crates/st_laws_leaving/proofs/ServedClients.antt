@@ -250,7 +250,7 @@ told_plain t h _ _ (edits.AreListed dir after rows e) = tt
 told_plain t h _ _ (edits.IsRefused op r e) = tt
 told_plain t h _ _ (edits.RemovesNot dir x g ino l f q) = tt
 
-ruled_plain : (now : Stamp) (t : ServerTurn) (h : Header) (b : Body) (u : ServerTurn) (r : Body) → Ruled now t h b u r → NoWelcome r
+pub ruled_plain : (now : Stamp) (t : ServerTurn) (h : Header) (b : Body) (u : ServerTurn) (r : Body) → Ruled now t h b u r → NoWelcome r
 ruled_plain now t h _ _ _ (edits.Tells b r x) = told_plain t h b r x
 ruled_plain now t h _ _ _ (edits.Acquires ino mode a q k g) = verdict a.verdict
   where

@@ -71,7 +71,7 @@ module _ (e : ThirdEvent) (w : ThirdWorld) (so : Sound w) (pe : People w) (st : 
   epoch_same = ap (λ (x : Words.Epoch). x.0) on.epoch
 
   -- the message that comes was sent to this server
-  comes : (m : Message) → input ≡ serving.Control m → (IsSent w.world m) × (m.header.to ≡ server_node s)
+  pub comes : (m : Message) → input ≡ serving.Control m → (IsSent w.world m) × (m.header.to ≡ server_node s)
   comes m q = go why q
     where
       go : {ev2 : ThirdEvent} {i : ServerInput} → ServerTakes w s ev2 i → i ≡ serving.Control m → (IsSent w.world m) × (m.header.to ≡ server_node s)
@@ -93,7 +93,7 @@ module _ (e : ThirdEvent) (w : ThirdWorld) (so : Sound w) (pe : People w) (st : 
       go (inl j) = j
       go (inr j) = let o = (on.said m j).from in absurd (omega (arith, f, o, l))
 
-  old_post : (k : ℕ) (m : Message) → k ≢ s.0 → IsSent U m → m.header.from ≡ 32768 + k → IsSent w.world m
+  pub old_post : (k : ℕ) (m : Message) → k ≢ s.0 → IsSent U m → m.header.from ≡ 32768 + k → IsSent w.world m
   old_post k m ne i f = go (step_post.0.sent m i)
     where
       go : (IsSent w.world m) ⊎ (Has (outputs.Send m) Step.out) → IsSent w.world m

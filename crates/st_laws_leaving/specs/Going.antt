@@ -49,11 +49,17 @@ pub record IsWelcomed (got : Heard) (s : ServerId) (life : ℕ) : Type 0 where
   pub welcome : message.body ≡ bodies.Welcome
   pub of_life : message.header.life ≡ life
 
--- A message to the server of an association: its life lies between that of the association before it was sent and that afterwards, and its epoch is known.
+-- Why there is a session in this life: it was there before, in the same life, or a welcome of this life was heard.
+abbrev pub HasBegunBy : Heard → Association → ℕ → Type 0
+HasBegunBy got a life = (((s : ClientSession) × (a.session ≡ Some s)) × (life ≡ a.life.0)) ⊎ (IsWelcomed got a.server life)
+
+-- A message to the server of an association: its life lies between that of the association before it was sent and that
+-- afterwards. Unless it is a greeting, its epoch is known, and so is why there is a session in its life.
 pub record SentWell (got : Heard) (a b : Association) (m : Message) : Type 0 where
   pub since : a.life.0 ≤ m.header.life
   pub until : m.header.life ≤ b.life.0
   pub epoch : (m.body ≡ bodies.Hello) ⊎ (EpochOf got a m.header.epoch)
+  pub begun : (m.body ≡ bodies.Hello) ⊎ (HasBegunBy got a m.header.life)
 
 -- What becomes of an association while this is said. As long as nothing is asked in the session, only
 -- calm messages are sent in its life. A session that begins was welcomed.
@@ -66,8 +72,7 @@ pub record Went (got : Heard) (a : Association) (os : List ThirdOutput) (b : Ass
   pub calm : Unasked b.session → (m : Message) → Has (says.Plain (outputs.Send m)) os → m.header.to ≡ server_node a.server → m.header.life ≡ b.life.0 →
       IsCalm m.body
   pub unasked : Unasked b.session → b.life.0 ≡ a.life.0 → Unasked a.session
-  pub begun : (u : ClientSession) → b.session ≡ Some u →
-      (((s : ClientSession) × (a.session ≡ Some s)) × (b.life.0 ≡ a.life.0)) ⊎ (IsWelcomed got a.server b.life.0)
+  pub begun : (u : ClientSession) → b.session ≡ Some u → HasBegunBy got a b.life.0
 
 -- When a leave is answered `left`, after these words: it is one of these or the one that was heard, and nothing was asked in the session yet.
 pub record AtLeft (got : Heard) (ls : List Leave) (a : Association) (before : List ThirdOutput) (op : ℕ) : Type 0 where

@@ -85,16 +85,16 @@ locks_length c =
 
 -- At one server.
 
-abbrev RowsIn : Limits → Body → Type 0
+abbrev pub RowsIn : Limits → Body → Type 0
 RowsIn m (bodies.Reassert rows) = length rows ≤ m.locks
 RowsIn m b = Unit {0}
 
-abbrev AskedRows : Limits → Option Request → Type 0
+abbrev pub AskedRows : Limits → Option Request → Type 0
 AskedRows m None = Unit {0}
 AskedRows m (Some q) = RowsIn m q.body
 
 -- the locks of a session are few, and so are the rows that it reasserts
-abbrev RowsFew : Limits → Option ClientSession → Type 0
+abbrev pub RowsFew : Limits → Option ClientSession → Type 0
 RowsFew m None = Unit {0}
 RowsFew m (Some s) = (FewIn m (Some s)) × (AskedRows m s.requests.asked)
 
@@ -172,7 +172,7 @@ ends_rows m t number ok _ (Hardens x v e o w q) f = f
 ends_rows m t number ok _ (Fails x v e o w q) f = f
 
 -- no word reasserts more
-abbrev WordRows : Limits → ThirdOutput → Type 0
+abbrev pub WordRows : Limits → ThirdOutput → Type 0
 WordRows m (says.Plain (outputs.Send x)) = RowsIn m x.body
 WordRows m o = Unit {0}
 
@@ -191,10 +191,10 @@ word_rows m t (says.Left op) r f = tt
 word_rows m t (says.Unsynced op ino) r f = tt
 word_rows m t (says.Ended s life end) r f = tt
 
-abbrev Rows : Config → Limits → Association → Beside → Type 0
+abbrev pub Rows : Config → Limits → Association → Beside → Type 0
 Rows k m a b = RowsFew m a.session
 
-rows_law : (k : Config) (m : Limits) (now : Stamp) → folds.Keeps k m now (Rows k m) (WordRows m)
+pub rows_law : (k : Config) (m : Limits) (now : Stamp) → folds.Keeps k m now (Rows k m) (WordRows m)
 rows_law k m now =
     record {
       change = λ t u c e l i f. turn_rows now m t u c l f;
@@ -207,10 +207,10 @@ rows_law k m now =
       at_once = λ op a. tt;
     }
 
-rows_begun : (k : Config) (m : Limits) (a : Association) → a.session ≡ None → a.store ≡ pages.empty_store → RowsFew m (limited_association m a).session
+pub rows_begun : (k : Config) (m : Limits) (a : Association) → a.session ≡ None → a.store ≡ pages.empty_store → RowsFew m (limited_association m a).session
 rows_begun k m a n e = subst (RowsFew m) (sym n) tt
 
-abbrev AllRows : ThirdWorld → Type 0
+abbrev pub AllRows : ThirdWorld → Type 0
 AllRows w = AllGood Rows WordRows rows_law rows_begun w
 
 -- What is observed.

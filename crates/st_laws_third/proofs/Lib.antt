@@ -34,7 +34,7 @@ mod ClientWords
 pub mod Mail
 pub mod DemandsSeen
 pub mod ShortRuns
-mod FewLocks
-mod FewPages
-mod FewRows
+pub mod FewLocks
+pub mod FewPages
+pub mod FewRows
 mod Expiry

@@ -148,7 +148,7 @@ unfolding ev.server_says_all
 server_says_all s [] sc = refl
 server_says_all s (o ∷ os) sc = server_says_all s os (ev.server_says sc s o) ∙ server_says_keep sc s o
 
-took_server : (w : ThirdWorld) (s : ServerId) (r : Result server.NodeTurn StepRefusal) →
+pub took_server : (w : ThirdWorld) (s : ServerId) (r : Result server.NodeTurn StepRefusal) →
     third_core (every.as_plain w (ev.server_took w.world s r)).third ≡ third_core w
 unfolding ev.server_took
 took_server w s (Ok t) =

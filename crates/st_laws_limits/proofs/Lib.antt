@@ -1,0 +1,15 @@
+mod RisingLists
+mod Pending
+mod PendingPasses
+mod PendingSteps
+mod PendingRuns
+mod Files
+mod ServerFiles
+mod InGrace
+mod Welcomed
+mod TakesInOrder
+mod ServesInOrder
+mod InOrder
+mod ClientMail
+mod FilesRuns
+mod LimitsKept
