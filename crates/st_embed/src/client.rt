@@ -6,6 +6,8 @@ ghost use Rattle.st_client.specs.Counts.{counts_with, is_awaited_with};
 ghost use Rattle.st_client.specs.Inputs.{is_sent};
 ghost use Rattle.st_client.specs.Room.{HasRoom};
 ghost use Rattle.st_client.specs.Nodes.{crashed_node};
+ghost use Rattle.st_client_due.specs.ClientDue.{client_due};
+ghost use Rattle.st_due.specs.Moments.{readable_by};
 ghost use Rattle.st_embed.specs.Clients.{MayOpen, MayStep, NotOpened, Refuses, Steps, are_lives, begun, has_new_life, is_kept, life, opened};
 ghost use Rattle.st_embed.specs.Clients as clients;
 ghost use Rattle.st_embed.specs.FramePieces.{Takes};
@@ -26,6 +28,7 @@ use crate::outbox::Sender;
 use crate::pending_frames::PendingFrames;
 use st_base::{ClientId, Config, Life, ServerId, Stamp};
 use st_client::{ClientCounts, ClientInput, ClientNode, Outputs, Phase, StepFault};
+use st_client_moments::due;
 use st_host_frames::HostFault;
 use st_messages::Message;
 use st_node::client_input_of;
@@ -224,6 +227,14 @@ impl EmbeddedClient {
         ensures { result ≡ is_awaited_with self.now.node.state server ino }
     {
         self.node.is_awaited(server, ino)
+    }
+
+    /// The first moment from this one on at which a tick does something, as long as there is no
+    /// other step; none if no clock may read it. An error means that memory ran out.
+    pub fn due(&self, from: Stamp) -> Result<Option<u64>, AllocError>
+        ensures { IfOk result (λ o. o ≡ readable_by (client_due self.now.node.state from)) }
+    {
+        due(&self.node, from)
     }
 
     /// How many bytes must still be taken out. An error means that memory ran out; it changes
