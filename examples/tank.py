@@ -140,6 +140,7 @@ _CALLS = {
     "tank_client_at": [_P(_Handle), c.c_uint16, c.c_uint64, _P(Association)],
     "tank_client_counts": [_P(_Handle), c.c_uint16, _P(ClientCounted)],
     "tank_client_owes": [_P(_Handle), c.c_uint16, c.c_uint32, _P(c.c_uint32)],
+    "tank_client_due": [_P(_Handle), c.c_uint64, _P(c.c_uint64)],
     "tank_client_events": [_P(_Handle), _P(Event), _size, _P(_size)],
     "tank_client_close": [_P(_Handle)],
     "tank_server_open": [_P(_Handle), _P(Settings), _P(Shape), c.c_uint64, _bytes, _size, _P(c.c_uint64)],
@@ -350,6 +351,14 @@ class Client(_Node):
         if result:
             raise Refused(result)
         return found.value == 1
+
+    def due(self, now):
+        """The first moment from now on at which a tick does something; None if there is none."""
+        found = c.c_uint64()
+        result = _library.tank_client_due(self._ref, now, c.byref(found))
+        if result:
+            raise Refused(result)
+        return None if found.value == NEVER else found.value
 
     def step(self, now, frame):
         """Takes a step for one frame, with its length, and returns the frames that come of it."""

@@ -226,6 +226,27 @@ def test_a_server_is_due():
     refused(server.due, "TANK_ABSENT")
 
 
+def test_a_client_is_due():
+    journal = Journal()
+    with Server(SETTINGS, SHAPE, 0, journal.bytes, journal.keep) as server, Client(SETTINGS, 1, [0]) as client:
+        assert client.due(0) is None
+        (hello,) = client.step(10, told(1, 65, READ[:4] + b"\1" + READ[5:] + bytes(4096)))  # it wants to write
+        assert client.due(10) == 10 + 500 and client.due(600) == 600  # the greeting is sent again
+        frame = hello
+        for _ in range(3):  # a session, a lock and a block
+            (reply,) = server.step(10, frame)
+            (frame,) = client.step(10, reply)
+        assert client.due(10) == 10 + 5000  # the lease is renewed
+        assert client.step(5009, tank.tick(1)) == [] and client.due(5009) == 5010
+        (keep_alive,) = client.step(5010, tank.tick(1))
+        assert keep_alive[5] == 2 and client.due(5010) == 5510  # it is sent again
+        (reply,) = server.step(5020, keep_alive)
+        assert client.step(5020, reply) == [] and client.due(5020) == 5010 + 5000
+        client.step(20000, tank.tick(1))  # the lease is lost
+        assert client.due(20000) is None
+    refused(lambda: client.due(0), "TANK_ABSENT")
+
+
 def test_a_server_goes_on():
     journal = Journal()
     Server(SETTINGS, SHAPE, 0, journal.bytes, journal.keep).close()

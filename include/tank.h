@@ -240,6 +240,18 @@ uint32_t tank_client_counts(const struct tank_client *client, uint16_t server,
 uint32_t tank_client_owes(const struct tank_client *client, uint16_t server, uint32_t ino,
                           uint32_t *is_owed);
 
+/* No reading of a clock. */
+#define TANK_NEVER UINT64_MAX
+
+/* *due is the first moment from `from` on at which a tick would do something, as long as the client
+ * takes no other step; TANK_NEVER if no reading of a clock is such a moment. A tick before *due, at
+ * `from` or later, leaves the client as it is, without frames. So with the present reading as
+ * `from`, a client needs no tick before *due. A tick that comes after *due may find nothing to do.
+ * Ask for it again after each step. A tick writes a page again whose write failed, so a program
+ * leaves some time between two ticks. A client with dirty pages is still given a tick in the flush
+ * phase before each lease end, due or not. This isn't a step. TANK_ABSENT, TANK_NO_MEMORY. */
+uint32_t tank_client_due(const struct tank_client *client, uint64_t from, uint64_t *due);
+
 /* Writes what the last step told to events[0 .. *count), in order. After the next step, or one that
  * ran out of memory, it is gone. This isn't a step. TANK_ABSENT, TANK_NO_MEMORY, TANK_SHORT_ROOM:
  * `events` stays as it was; at TANK_SHORT_ROOM *count is the number of events. */
@@ -343,9 +355,6 @@ struct tank_server_counted {
 
 /* How much a server has. This isn't a step. TANK_ABSENT: *counted stays as it was. */
 uint32_t tank_server_counts(const struct tank_server *server, struct tank_server_counted *counted);
-
-/* No reading of a clock. */
-#define TANK_NEVER UINT64_MAX
 
 /* *due is the earliest moment at which a tick would do something, as long as the server takes no
  * other step; TANK_NEVER if no reading of a clock is such a moment. Exactly before *due a tick

@@ -50,6 +50,13 @@ static inline uint32_t tank_client_owes_checked(const struct tank_client *client
 }
 #define tank_client_owes tank_client_owes_checked
 
+static inline uint32_t tank_client_due_checked(const struct tank_client *client, uint64_t from,
+        uint64_t *due) {
+    if (!client || !due) return TANK_NULL;
+    return tank_client_due(client, from, due);
+}
+#define tank_client_due tank_client_due_checked
+
 static inline uint32_t tank_client_events_checked(const struct tank_client *client,
         struct tank_event *events, size_t room, size_t *count) {
     if (!client || !count || (!events && room)) return TANK_NULL;

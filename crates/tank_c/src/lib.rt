@@ -5,7 +5,7 @@ ghost use Rattle.std.specs.Prelude.{◌≡◌, ◌≢◌, None, Ok, is_some, len
 ghost use Rattle.tank_c.specs.Calls.{ClientOpens, ClientSteps, ClientTakes, NoClientOpened, NoClientStep, TellsOf, client_not_taken};
 ghost use Rattle.tank_c.specs.Codes.{ABSENT, DONE, VERSION};
 ghost use Rattle.tank_c.specs.Counts.{TellsClientCounts, TellsOwed, TellsServerCounts};
-ghost use Rattle.tank_c.specs.Due.{TellsServerDue, not_told};
+ghost use Rattle.tank_c.specs.Due.{TellsClientDue, TellsServerDue, client_not_told, not_told};
 ghost use Rattle.tank_c.specs.Events.{ClientTells, NoClientEvents, NoServerEvents, ServerTells};
 ghost use Rattle.tank_c.specs.FrameCalls.{NoFront, Unshown, Unwritten};
 ghost use Rattle.tank_c.specs.FrameCalls as shown;
@@ -39,7 +39,7 @@ use crate::codes::{
     server_open_place,
 };
 use crate::counts::{count_client, count_server, owes};
-use crate::due::due_server;
+use crate::due::{due_client, due_server};
 use crate::events::{client_events, server_events};
 use crate::frame_calls::{no_answer, no_command, no_front};
 use crate::server_calls::{record_server, step_server, take_server};
@@ -222,6 +222,30 @@ pub extern "C" fn tank_client_owes(
     *is_owed = owes(&held, server, ino);
     client.slot = ClientSlot::of(BoxPointer::of(held));
     DONE
+}
+
+/// Tells the first moment from this one on at which a tick at a client does something.
+#[unsafe(no_mangle)]
+pub extern "C" fn tank_client_due(
+    client: &mut TankClient,
+    alloc: Global,
+    from: u64,
+    due: &mut u64,
+) -> u32
+    ensures told { result ≡ DONE → TellsClientDue client.old.slot.value from due.new }
+    ensures refused { result ≢ DONE → (result ≡ client_not_told client.old.slot.value) × (due.new ≡ 0) }
+    ensures same { client.new.slot.value ≡ client.old.slot.value }
+{
+    if !client.full {
+        *due = 0;
+        return ABSENT;
+    }
+    let held = mem::replace(&mut client.slot, ClientSlot::empty())
+        .into_loose(alloc)
+        .into_box();
+    let code = due_client(&held, from, due);
+    client.slot = ClientSlot::of(BoxPointer::of(held));
+    code
 }
 
 /// Tells what the last step of a client told beside its frames.
