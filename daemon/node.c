@@ -8,15 +8,16 @@
  *   One clock for each node, which never falls: keep.c.
  *   The clocks' rates: keep.c. CLOCK_BOOTTIME counts while the machine sleeps.
  *   The reading is taken when the step is taken: node_take.
- *   Ticks, and a flush that was missed: tick, tick_time, set_tick, is_flush_missed, fence.
+ *   Ticks, and a flush that was missed: tick, tick_time, flush_begins, set_tick, is_flush_missed,
+ *     fence.
  *   Disk commands in time, and disks of blocks: disks.c.
  *   An ask's number is used once: asks.c, new_op.
  *   Frames arrive as they were sent, and `from` is that of the peer: links.c, node_hear.
  *   Frames from and to node 0 stay here: node_hear, give_all.
  *   Demands after grants: node_hear, is_early.
  *
- * The library doesn't have groups of changes, snapshots, `due` of a client and `leave` yet. When it
- * does, groups and snapshots belong in keep_record, `due` in tick, and `leave` in node_end. */
+ * The library doesn't have groups of changes, snapshots and `leave` yet. When it does, groups and
+ * snapshots belong in keep_record, and `leave` in node_end. */
 #include "tankd.h"
 #include <endian.h>
 #include <string.h>
@@ -43,8 +44,9 @@ static struct tank_client client = TANK_CLIENT_CLOSED;
 static struct tank_server server = TANK_SERVER_CLOSED;
 static GByteArray *given; /* the frames of the last step */
 static GQueue held = G_QUEUE_INIT;
-static struct event *held_timer, *ticks;
+static struct event *held_timer, *end_timer, *ticks;
 static uint64_t gate;   /* a server's, of its journal */
+static uint64_t ticked; /* the reading at which a client got its last tick */
 static uint64_t end_by; /* the moment at which the daemon ends, at the latest; 0 before SIGTERM */
 
 /* Keeping what a step changed */
@@ -223,15 +225,37 @@ static void note_untaken(uint32_t result) {
     is_said = true;
 }
 
-/* The time between two ticks of a client: at least one comes in the flush phase of each lease. */
+/* The least time between two ticks of a client; one fits into each flush phase. Without it, a disk
+ * that fails would be given the same write at once, again and again. */
 static uint64_t tick_time(void) {
     return CLAMP((config.settings.lease - config.settings.flush) / 2, 1, TICK);
 }
 
-/* A server gets its next tick when it is due. If it can't be asked, it gets one soon. */
+/* When the first flush phase begins, of a lease with dirty pages that no step has found in flush. A
+ * step must find it there, even with nothing to do (is_flush_missed). */
+static uint64_t flush_begins(void) {
+    uint64_t first = TANK_NEVER, length = config.settings.lease - config.settings.flush;
+    for (uint16_t number = 1; number <= config.servers; number++) {
+        const struct lease *it = &leases[number];
+        uint64_t end = it->at.lease_end;
+        if (end && it->at.dirty && it->flushed != end) first = MIN(first, end - length);
+    }
+    return first;
+}
+
+/* When a client gets its next tick. */
+static uint32_t client_due(uint64_t now, uint64_t *due) {
+    uint32_t result = tank_client_due(&client, now, due);
+    if (result != TANK_DONE) return result;
+    *due = MAX(MIN(*due, flush_begins()), ticked + tick_time());
+    return TANK_DONE;
+}
+
+/* A node gets its next tick when it is due. If it can't be asked, it gets one soon. */
 static void set_tick(uint64_t now) {
     uint64_t due;
-    if (tank_server_due(&server, &due) != TANK_DONE) due = now + TICK;
+    if ((config.is_server ? tank_server_due(&server, &due) : client_due(now, &due)) != TANK_DONE)
+        due = now + TICK;
     if (due == TANK_NEVER) event_del(ticks);
     else timer_set(ticks, due > now ? due - now : 0);
 }
@@ -252,7 +276,7 @@ void node_take(const uint8_t *frame, size_t size) {
     trace("\n");
     trace_flush();
     if (config.is_traced && gate != old_gate) mark_keep(gate);
-    if (config.is_server) set_tick(now);
+    set_tick(now);
     if (result != TANK_DONE) {
         note_untaken(result);
         return;
@@ -266,6 +290,7 @@ static void tick(UNUSED_OF_EVENT) {
     uint8_t frame[64];
     size_t size;
     must(tank_encode_tick(config.node, frame, sizeof frame, &size));
+    ticked = clock_at(clock_moment());
     node_take(frame, size);
 }
 
@@ -295,7 +320,7 @@ static bool is_early(const uint8_t *frame, uint16_t from) {
     return is_owed;
 }
 
-static void held_is_due(UNUSED_OF_EVENT) {} /* node_between takes it */
+static void wake(UNUSED_OF_EVENT) {} /* node_between takes what was held, or ends */
 
 /* Takes the demands that are no longer early. */
 static void take_held(void) {
@@ -352,18 +377,19 @@ void node_between(void) {
 
 void node_begin(void) {
     given = g_byte_array_new();
-    held_timer = evtimer_new(base, held_is_due, NULL);
-    ticks = event_new(base, -1, config.is_server ? 0 : EV_PERSIST, tick, NULL);
+    held_timer = evtimer_new(base, wake, NULL);
+    end_timer = evtimer_new(base, wake, NULL);
+    ticks = evtimer_new(base, tick, NULL);
     if (!config.is_server) disks_begin();
     if (config.is_server) begin_server();
     else begin_client();
-    if (!config.is_server) event_add(ticks, &(struct timeval){0, (suseconds_t)tick_time() * 1000});
 }
 
 void node_end(void) {
     if (config.is_server) loop_end();
     else asks_end();
     end_by = clock_moment() + config.settings.lease * MILLISECOND;
+    timer_set(end_timer, config.settings.lease + 1);
 }
 
 void node_close(void) {
