@@ -221,9 +221,11 @@ rows_few n l c life rows none few h = record { limit = h.limit; few = λ d. at d
         go (inl y) = inl (ByRow r y e q)
         go (inr y) =
             let z = has_map (locks.installed c life) rows r y in
-            inr (sym e ∙ ap (λ (g : LockRow). g.client.0) z.2,
-            subst (λ j. Has j (map (λ (g : ℕ × GrantNo × Mode). g.0) rows)) (ap (λ (g : LockRow). g.ino) (sym z.2) ∙ q)
-            (has_map_in (λ (g : ℕ × GrantNo × Mode). g.0) rows z.0 z.1))
+            inr (
+              sym e ∙ ap (λ (g : LockRow). g.client.0) z.2,
+              subst (λ j. Has j (map (λ (g : ℕ × GrantNo × Mode). g.0) rows)) (ap (λ (g : LockRow). g.ino) (sym z.2) ∙ q)
+                  (has_map_in (λ (g : ℕ × GrantNo × Mode). g.0) rows z.0 z.1),
+            )
 
     at : (d : ClientId) → (d.0 ≡ c.0) ⊎ (d.0 ≢ c.0) → length (files_of v d) ≤ n
     at d (inl p) =

@@ -175,9 +175,11 @@ unfolding most_clients
 every_server_has_few_files k m clients servers disks blocks es head =
     stands_throughout Also FilesAreFew
     (λ past t e s q. let v : ThirdWorld = (every.happens (third_counted t.third) e).third in
-    let f : Fits v = fits_after t.third e s.sound s.people s.standing s.also in
-    (all_pass (has_few_everywhere v) (all_clients v.world)
-    (λ c h. all_pass (λ r. are_few_files v c (node_of v.world r)) (all_servers v.world) (λ r i. one_few v f.files c r)), f))
+    let f : Fits v = fits_after t.third e s.sound s.people s.standing s.also in (
+      all_pass (has_few_everywhere v) (all_clients v.world)
+          (λ c h. all_pass (λ r. are_few_files v c (node_of v.world r)) (all_servers v.world) (λ r i. one_few v f.files c r)),
+      f,
+    ))
     es [] (steps.third_traced (third_world k m clients servers disks blocks 3))
     (record {
       sound = sound_first k m clients servers disks blocks;

@@ -252,7 +252,7 @@ pub operates_all : (now : Stamp) (t : ThirdTurn) → Fewer t (client.operations 
 unfolding client.operations plainly
 operates_all now t =
     let p = served_all now os (filter (state.is_leave_of (state.here t)) t.leaves) (length t.leaves) (state.numbers_of os (filter (state.is_leave_of (state.here t)) t.leaves)) (plainly (cs.with_operations []) t)
-        (rising_rises _) (record { rises = tt; before = λ x n h i. absurd h; among = λ x h. absurd h; leaves = omega arith }) in
+    (rising_rises _) (record { rises = tt; before = λ x n h i. absurd h; among = λ x h. absurd h; leaves = omega arith }) in
     all (client.operate_these now os (filter (state.is_leave_of (state.here t)) t.leaves) t) p
   where
     os : List Operation

@@ -117,9 +117,9 @@ pending_first k m clients servers disks blocks n site b e i = go (numbered v.cli
     go (Some x) q r =
         let a = none x q in
         let s : length x.node.state.operations ≡ length site.node.state.operations =
-            ap (λ (z : WorldClient). length z.node.state.operations) (some_is r) in
+        ap (λ (z : WorldClient). length z.node.state.operations) (some_is r) in
         let t : length b.leaves ≡ 0 =
-            ap (λ (z : ClientBeside). length z.leaves) (some_is (sym i ∙ numbered_map worlds.beside_site v.clients n ∙ ap (option_map worlds.beside_site) q)) in
+        ap (λ (z : ClientBeside). length z.leaves) (some_is (sym i ∙ numbered_map worlds.beside_site v.clients n ∙ ap (option_map worlds.beside_site) q)) in
         omega (arith, a, s, t)
 
 -- each event

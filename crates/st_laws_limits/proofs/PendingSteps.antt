@@ -115,7 +115,7 @@ module _ (m : Limits) (s : ServerId) (rule : ThirdTurn → ThirdTurn) (one : (t 
       go true q l =
           let x = one (enter m t a b) in
           let z = none_asked as_ bs (leave t (rule (enter m t a b)))
-              (λ c h. ne_eqb c.server.0 s.0 (λ e. p.first c h (e ∙ sym (eqb-true a.server.0 s.0 q)))) in
+          (λ c h. ne_eqb c.server.0 s.0 (λ e. p.first c h (e ∙ sym (eqb-true a.server.0 s.0 q)))) in
           omega (arith, x, z)
       go false q l = l
 

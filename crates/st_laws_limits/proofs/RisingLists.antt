@@ -26,5 +26,5 @@ no_longer [] ys r f = omega arith
 no_longer (x ∷ xs) ys r f =
     let a = shorter x ys (f x (inl refl)) in
     let b = no_longer xs (filter (λ z. not (z == x)) ys) r.rest
-        (λ y h. has_filter_in (λ z. not (z == x)) ys y (f y (inr h)) (ap not (ne_eqb y x (λ e. let l = r.first y h in omega (arith, l, e))))) in
+    (λ y h. has_filter_in (λ z. not (z == x)) ys y (f y (inr h)) (ap not (ne_eqb y x (λ e. let l = r.first y h in omega (arith, l, e))))) in
     omega (arith, a, b)

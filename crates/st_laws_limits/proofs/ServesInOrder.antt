@@ -10,11 +10,9 @@ use Words.Events as ev
 use Words.Grace as grace
 use Words.Keys.{server_node}
 use Words.Lists.{Has}
-
 use Words.Server as server
 use Words.Server.{ServerNode}
 use Words.Sessions.{session_of}
-
 use Words.World.{World, WorldClient, clock_of, node_of, numbered}
 use Rattle.st_rules.specs.declared.input.ServerInput.TheVariants as inputs
 use Rattle.st_third.specs.declared.event.ThirdEvent.{ThirdEvent}
