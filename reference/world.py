@@ -170,10 +170,18 @@ class World:
                 if not before < end <= before + increment:
                     continue
                 stepped = self.flush_steps.get((client.number, association.server)) == end
-                writing = any(command.version is not None for command in association.store.commands.values())
-                if not stepped or writing:
+                if not stepped or self.has_write_out(client, association):
                     return "FlushMissed", f"c{client.number}", f"s{association.server}"
         return None
+
+    def has_write_out(self, client, association):
+        """Whether a write isn't reported that the client submitted since its last start, in its
+        present life at the server. Chapter "The world"."""
+        present = (client.number, self.starts[client.number - 1], association.server, association.life)
+        return any(
+            not command.reported and origin.carries is not None and (origin.client, origin.starts, origin.server, origin.life) == present
+            for command, origin in zip(self.disks.commands, self.origins)
+        )
 
     def check_effect(self, number):
         """The checks of an effect. Chapter "The world"."""

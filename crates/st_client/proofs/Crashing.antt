@@ -1,12 +1,12 @@
 -- What a crash leaves of a client: its servers and its lives.
 use Rattle.st_lemmas.proofs.Words
 use Words.{◌≡◌, ℕ, ◌+◌, ◌<◌, Bool, true, false, ◌&&◌, List, [], ◌∷◌, length, map, drop, get_or, refl, sym, ap, ◌∙◌, arith, ne_eqb, Option, Some, None}
-use Words.{cond, find, list_all, list_any, Config, ClientId, Life, ServerId, Stamp}
+use Words.{cond, find, list_all, Config, ClientId, Life, ServerId, Stamp}
 use Words.Tables.{cond_either, cond_false}
-use Words.Client.{association_of, crash, crashed_association, has_dirty_with, has_write_with, is_any, lease_at, lease_end_with, life_of_association, phase_with}
+use Words.Client.{association_of, crash, crashed_association, has_dirty_with, is_any, lease_at, lease_end_with, life_of_association, phase_with}
 use Words.Client.{store_at}
 use Words.ClientLease.{ClientLease, end_at, phase_at}
-use Words.ClientPages.{Store, empty_store, is_any_write}
+use Words.ClientPages.{Store, empty_store}
 use Words.ClientState.{Association, ClientState, is_at}
 use Words.Keys.{same_server}
 use Words.World as world
@@ -108,9 +108,6 @@ both_more F ss ls i s l n e =
 -- nothing is there if a client is crashed
 pub nothing_dirty : (id : ClientId) (config : Config) (ss : List ServerId) (ls : List Life) (server : ServerId) → false ≡ has_dirty_with (crashed_client id config ss ls) server
 nothing_dirty id config ss ls server = ap (λ (st : Store). is_any st.pages.dirty) (sym (no_store server ss ls))
-
-pub nothing_out : (id : ClientId) (config : Config) (ss : List ServerId) (ls : List Life) (server : ServerId) → false ≡ has_write_with (crashed_client id config ss ls) server
-nothing_out id config ss ls server = ap (λ (st : Store). list_any is_any_write st.commands) (sym (no_store server ss ls))
 
 pub no_end : (id : ClientId) (config : Config) (ss : List ServerId) (ls : List Life) (server : ServerId) → None ≡ lease_end_with (crashed_client id config ss ls) server
 no_end id config ss ls server = ap (λ (l : Option ClientLease). end_at config l) (sym (no_lease server ss ls))

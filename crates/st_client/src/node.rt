@@ -182,16 +182,6 @@ impl ClientNode {
         }
     }
 
-    /// Whether a write of a page of the server is outstanding.
-    pub fn has_write_out(&self, server: ServerId) -> bool
-        ensures { result ≡ client.has_write_with self.now.state server }
-    {
-        match &self.state {
-            Some(state) => state.has_write_out(server),
-            None => false,
-        }
-    }
-
     /// How much the client has of a server.
     pub fn counts(&self, server: ServerId) -> ClientCounts
         ensures { result ≡ counts_with self.now.state server }

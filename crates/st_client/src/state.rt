@@ -167,16 +167,6 @@ impl ClientState {
         }
     }
 
-    /// Whether a write of a page of the server is outstanding.
-    pub(crate) fn has_write_out(&self, server: ServerId) -> bool
-        ensures { result ≡ client.has_write_with self.now server }
-    {
-        match self.at(server) {
-            Some(a) => a.has_write_out(),
-            None => false,
-        }
-    }
-
     /// Adds its present lives, with the ends of their leases, for which the list has room.
     pub(crate) fn push_lives(&self, found: &mut Vec<LeaseLife>)
         requires { vec_len found.old + length self.now.associations ≤ vec_capacity found.old }

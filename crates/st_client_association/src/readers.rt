@@ -1,6 +1,5 @@
 // What an association says about itself between steps.
 ghost use Rattle.std.specs.Prelude.{◌≡◌, ◌+◌, false, nat_le, not, is_some, Some};
-ghost use Rattle.std.specs.List.{list_any};
 ghost use Rattle.st_client_association.specs.Associations.{has_room_at, may_ask};
 ghost use Rattle.st_client_association.specs.Activity.{is_awake, is_awake_by, may_send, takes_all};
 ghost use Rattle.st_rules.specs.Client as client;
@@ -49,13 +48,6 @@ impl Association {
         ensures { result ≡ client.is_any self.now.here.store.pages.dirty }
     {
         self.here.store.dirty_count() > 0
-    }
-
-    /// Whether a write is outstanding.
-    pub fn has_write_out(&self) -> bool
-        ensures { result ≡ list_any pages.is_any_write self.now.here.store.commands }
-    {
-        self.here.store.has_write_out()
     }
 
     /// Whether a command of this number is outstanding.

@@ -1,5 +1,4 @@
 ghost use Rattle.std.specs.Prelude.{◌≡◌, ◌<◌, ◌+◌, ◌^◌, true, false, None, Some, IfOk, OnOk, OnErr, is_some, length, nat_lt, slice_get};
-ghost use Rattle.std.specs.List.{list_any};
 ghost use Rattle.std.specs.Option.{option_copied, option_map};
 ghost use Rattle.st_flush.specs.Calls.{AreApart, told, told_on};
 ghost use Rattle.st_rules.specs.ClientPages as pages;
@@ -175,13 +174,6 @@ impl Store {
         ensures { result ≡ pages.is_being_written self.now.store.commands ino page }
     {
         self.commands.is_being_written(ino, page)
-    }
-
-    /// Whether a write is outstanding.
-    pub fn has_write_out(&self) -> bool
-        ensures { result ≡ list_any pages.is_any_write self.now.store.commands }
-    {
-        self.commands.has_write_out()
     }
 
     /// Whether a version is left for one more change of a page.

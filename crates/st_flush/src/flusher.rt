@@ -6,7 +6,7 @@ ghost use Rattle.st_rules.specs.ServerInvariants.{are_once};
 ghost use Rattle.st_flush.specs.Calls.{AreApart, Ends, is_taken_in, may_begin, no_commands_of, same_page_write, told, told_on, with_begun, with_commands};
 
 use crate::picks::{
-    AnyWrite, InRange, NotNumbered, NotReadOf, Numbered, OfPage, OnFile, ReadOf, WriteOf, WriteOn,
+    InRange, NotNumbered, NotReadOf, Numbered, OfPage, OnFile, ReadOf, WriteOf, WriteOn,
     any_command, find_command,
 };
 use st_base::{PageNo, ServerId};
@@ -171,13 +171,6 @@ impl Flusher {
         ensures { result ≡ pages.has_write_on self.now.commands ino }
     {
         any_command(&self.commands, &WriteOn { ino })
-    }
-
-    /// Whether a write is outstanding.
-    pub fn has_write_out(&self) -> bool
-        ensures { result ≡ list_any pages.is_any_write self.now.commands }
-    {
-        any_command(&self.commands, &AnyWrite)
     }
 
     /// A command ended, as done or as failed; `version` is that of its page now. It returns what

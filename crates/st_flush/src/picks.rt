@@ -151,20 +151,6 @@ impl Test<PageCommand> for WriteOn {
     }
 }
 
-/// The writes.
-#[derive(Clone, Copy)]
-pub struct AnyWrite;
-
-impl Test<PageCommand> for AnyWrite {
-    ghost use Rattle.st_rules.specs.ClientPages.{is_any_write};
-
-    ghost passes = { λ t c. is_any_write c };
-
-    fn test(&self, command: &PageCommand) -> bool {
-        is_write(command.kind)
-    }
-}
-
 /// The commands of this many numbers from the first one on.
 #[derive(Clone, Copy)]
 pub struct InRange {

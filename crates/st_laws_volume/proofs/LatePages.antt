@@ -214,6 +214,7 @@ advanced past w steps refused fates both agree h c site there runs a i over ino 
         list_any pages.is_any_write a.store.commands ≡ false
     none s e b o =
         ap (λ (st : pages.Store). list_any pages.is_any_write st.commands) (sym store)
+        ∙ agree c site there runs a i
         ∙ unwritten w steps refused c site there runs a.server (both.flush.servers c site there a i)
         (ap (adm.reaches (clock_of w (nodes.Client c)) (adm.step_of c steps)) end_is
         ∙ and_both (nat_lt (clock_of w (nodes.Client c)).0 (lease.end_of site.node.state.config s.lease).0)

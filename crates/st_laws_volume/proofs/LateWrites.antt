@@ -55,11 +55,11 @@ no_write true true false unflushed write h x y z = cc z
 pub unwritten : (w : World) (steps : List ℕ) → adm.refusal w (events.Advance steps) ≡ None → (c : ClientId) (site : WorldClient) →
     site_of w c ≡ Some site → site.node.running ≡ true → (s : ServerId) → (1 ≤ s.0) × (s.0 ≤ length w.servers) →
     adm.reaches (clock_of w (nodes.Client c)) (adm.step_of c steps) (world.present_end w s (Some site)) ≡ true →
-    cl.has_dirty_with site.node.state s ≡ true → cl.has_write_with site.node.state s ≡ false
+    cl.has_dirty_with site.node.state s ≡ true → adm.has_write_out w c s site ≡ false
 unwritten w steps refused c site there runs s range reached dirty =
     no_write site.node.running (adm.reaches (clock_of w (nodes.Client c)) (adm.step_of c steps) (world.present_end w s (Some site)))
     (cl.has_dirty_with site.node.state s)
-    (not (adm.has_flushed w c s (world.present_end w s (Some site)))) (cl.has_write_with site.node.state s)
+    (not (adm.has_flushed w c s (world.present_end w s (Some site)))) (adm.has_write_out w c s site)
     (stands_not (adm.misses w c s (adm.step_of c steps) site (world.present_end w s (Some site))) _
     (ap (adm.missed_at w steps c s) (sym there)
     ∙ at_servers w steps c (world.all_servers w) (at_clients w steps (world.all_clients w) (flushed_all w steps refused) c client) s server))

@@ -50,8 +50,6 @@ pub fn a_client_tells_of_its_leases()
     ensures phase { client.phase_with (dirty_client 1) (server 1) (stamp 850) ≡ Some phases.Flush }
     ensures end { client.lease_end_with (dirty_client 1) (server 1) ≡ Some (stamp 1000) }
     ensures dirty { client.has_dirty_with (dirty_client 1) (server 1) ≡ true }
-    ensures unwritten { client.has_write_with (dirty_client 1) (server 1) ≡ false }
-    ensures written { client.has_write_with (left ((Given 850 Tick) ∷ []) (dirty_client 1)) (server 1) ≡ true }
     ensures hard { client.has_dirty_with (left ((Given 850 Tick) ∷ (Given 850 (Done 1 (Some None))) ∷ []) (dirty_client 1)) (server 1) ≡ false }
     ensures no_phase { client.phase_with (client_of 2) (server 2) (stamp 0) ≡ None }
     ensures no_end { client.lease_end_with (client_of 2) (server 2) ≡ None }

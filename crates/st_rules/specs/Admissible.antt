@@ -1,9 +1,10 @@
 -- Admissible events: for each event the refusals of a world, in their order.
-use Rattle.std.specs.Prelude.{ℕ, ◌+◌, Bool, true, false, ◌&&◌, ◌||◌, not, ◌==◌, nat_le, nat_lt, if◌then◌else◌, List, [], ◌∷◌, Option, Some, None, unwrap_or, ⊤}
+use Rattle.std.specs.Prelude.{ℕ, ◌+◌, Bool, true, false, ◌&&◌, ◌||◌, not, ◌==◌, nat_le, nat_lt, if◌then◌else◌, List, [], ◌∷◌, zip, Option, Some, None, is_some, unwrap_or, ⊤}
 use Rattle.std.specs.List.{list_any}
 use Rattle.std.specs.Option.{option_or}
 use Rattle.st_base.specs.declared.ids.ClientId.{ClientId}
 use Rattle.st_base.specs.declared.ids.ServerId.{ServerId}
+use Rattle.st_base.specs.declared.ids.Life.{Life}
 use Rattle.st_base.specs.declared.ids.NodeId.{NodeId}
 use Rattle.st_base.specs.declared.ids.NodeId.TheVariants as nodes
 use Rattle.st_base.specs.declared.ids.Stamp.{Stamp}
@@ -21,8 +22,9 @@ use Rattle.st_rules.specs.declared.world.IssuedCommand.{IssuedCommand}
 use Rattle.st_rules.specs.declared.world.FlushStep.{FlushStep}
 use Rattle.st_rules.specs.Leases.{rate_ok, greatest_of, least_of, drift_after, first_excess}
 use Rattle.st_rules.specs.Disks.{command}
-use Rattle.st_rules.specs.Client.{has_dirty_with, has_write_with}
-use Rattle.st_rules.specs.World.{World, WorldClient, numbered, site_of, is_running, is_known, same_node, node_of_place, all_clients, all_servers, clock_of, message_of, receiver_of, sender_of, issued_of, lease_end_of, present_end, is_flush_of}
+use Rattle.st_rules.specs.Client.{has_dirty_with}
+use Rattle.st_rules.specs.Keys.{same_client, same_server}
+use Rattle.st_rules.specs.World.{World, WorldClient, numbered, site_of, is_running, is_known, same_node, node_of_place, all_clients, all_servers, clock_of, message_of, receiver_of, sender_of, issued_of, life_with, lease_end_of, present_end, is_flush_of}
 
 -- The first refusal that applies: a refusal applies if its test holds.
 unfoldable pub stands : Bool → WorldRefusal → Option WorldRefusal
@@ -91,8 +93,29 @@ excess_with w steps = first_excess (drift_after w.drift steps w.config.num w.con
 unfoldable pub clocks_refused : World → List ℕ → Option WorldRefusal
 clocks_refused w steps = if w.form == 1 then rate_refused w steps else drift_refused w (excess_with w steps)
 
+-- A command that is not reported yet.
+abbrev pub is_open : Report → Bool
+is_open reports.Open = true
+is_open report = false
+
+-- A write is out: a command of this instance of the client, in this life at the server,
+abbrev pub is_command_of : ClientId → ServerId → ℕ → Life → IssuedCommand → Bool
+is_command_of c s starts life x = (same_client x.client c && (x.starts == starts)) && (same_server x.server s && (x.life.0 == life.0))
+
+-- that carries an entry and is not reported
+abbrev pub is_open_write : IssuedCommand → DiskCommand → Bool
+is_open_write x d = is_some x.carries && is_open d.report
+
+-- both
+abbrev pub is_write_out : ClientId → ServerId → ℕ → Life → IssuedCommand × DiskCommand → Bool
+is_write_out c s starts life x = is_command_of c s starts life x.0 && is_open_write x.0 x.1
+
+-- one of the client since its last start, in its present life at the server
+abbrev pub has_write_out : World → ClientId → ServerId → WorldClient → Bool
+has_write_out w c s site = list_any (is_write_out c s site.starts (life_with site.node.state s)) (zip w.commands w.disks.commands)
+
 -- Missed flush: the advance takes a running client with dirty pages of a server to its lease end, and no step of it ended in
--- the flush phase under this end, or a write of that server's files is outstanding.
+-- the flush phase under this end, or a write of it at that server is out.
 abbrev pub reaches : Stamp → ℕ → Option Stamp → Bool
 reaches clock step None = false
 reaches clock step (Some end) = nat_lt clock.0 end.0 && nat_le end.0 (clock.0 + step)
@@ -108,7 +131,7 @@ has_flushed w c s end = list_any (is_flush_under c s end) w.flushed
 
 -- it should be flushed, and isn't, or isn't yet
 abbrev pub is_unflushed : World → ClientId → ServerId → WorldClient → Option Stamp → Bool
-is_unflushed w c s site end = has_dirty_with site.node.state s && (not (has_flushed w c s end) || has_write_with site.node.state s)
+is_unflushed w c s site end = has_dirty_with site.node.state s && (not (has_flushed w c s end) || has_write_out w c s site)
 
 -- a running client that comes to its lease end unflushed
 abbrev pub misses : World → ClientId → ServerId → ℕ → WorldClient → Option Stamp → Bool
@@ -133,12 +156,7 @@ unfoldable pub flush_missed : World → List ℕ → List ClientId → Option Wo
 flush_missed w steps [] = None
 flush_missed w steps (c ∷ cs) = option_or (missed_by w steps c (all_servers w)) (flush_missed w steps cs)
 
--- Effects: there is no such command; it had its effect or was reported; its lease is over.
-abbrev pub is_open : Report → Bool
-is_open reports.Open = true
-is_open report = false
-
--- the lease end that a clock reached
+-- Effects: there is no such command; it had its effect or was reported; its lease is over. The lease end that a clock reached
 abbrev pub late_at : Stamp → Option Stamp → Option WorldRefusal
 late_at clock None = None
 late_at clock (Some end) = stands (nat_le end.0 clock.0) (refusals.LateDisk clock end)

@@ -357,10 +357,6 @@ is_any (x ∷ xs) = true
 abbrev pub has_dirty_with : ClientState → ServerId → Bool
 has_dirty_with c s = is_any (store_at (association_with c s)).pages.dirty
 
--- a write of a page of the server is outstanding
-abbrev pub has_write_with : ClientState → ServerId → Bool
-has_write_with c s = list_any pages.is_any_write (store_at (association_with c s)).commands
-
 -- the life of an association
 abbrev pub life_of_association : Association → Life
 life_of_association a = a.life

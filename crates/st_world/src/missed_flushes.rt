@@ -71,7 +71,10 @@ fn misses(
     site.running()
         && (reaches(machine.clock_of(NodeId::Client(client)), step, end)
             && (site.has_dirty(server)
-                && (!has_flushed(machine, client, server, end) || site.has_write_out(server))))
+                && (!has_flushed(machine, client, server, end)
+                    || machine
+                        .commands
+                        .has_write_out(client, server, site.starts(), site.life(server)))))
 }
 
 fn site_missed(

@@ -58,11 +58,4 @@ impl WorldClient {
     {
         self.node.has_dirty(server)
     }
-
-    /// Whether a write of a page of a server is outstanding.
-    pub fn has_write_out(&self, server: ServerId) -> bool
-        ensures { result ≡ client_rules.has_write_with self.now.node.state server }
-    {
-        self.node.has_write_out(server)
-    }
 }

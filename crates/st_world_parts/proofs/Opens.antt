@@ -107,3 +107,23 @@ spared number o pre (c ∷ cs) n (d ∷ ds) l q =
     ap (λ all. list_any (walks.spares number o) (spares_at all (open_from (n + 1) ds))) (sym (append_assoc pre (c ∷ []) cs))
     ∙ spared number o (pre ++ c ∷ []) cs (n + 1) ds (length-append pre (c ∷ []) ∙ ap (λ k. k + 1) l) (omega (arith, q)) in
     spared_first number o (is_open d.report) n (pre ++ c ∷ cs) c (open_from (n + 1) ds) (list_any (spares number o) (zip cs ds)) seam rest
+
+-- a test passes at a place of a command that was not reported exactly if it does at such a command of the zipped lists
+any_first : (b : Bool) (f : ℕ → Bool) (n : ℕ) (ks : List ℕ) → list_any f (if b then n ∷ ks else ks) ≡ ((b && f n) || list_any f ks)
+any_first true f n ks = refl
+any_first false f n ks = refl
+
+pub any_open : (p : IssuedCommand → Bool) (q : IssuedCommand × DiskCommand → Bool) → ((c : IssuedCommand) (d : DiskCommand) → (is_open d.report && p c) ≡ q (c, d)) →
+    (pre cs : List IssuedCommand) (n : ℕ) (ds : List DiskCommand) → length pre ≡ n → length cs ≡ length ds →
+    list_any (λ k. p (nth (pre ++ cs) k)) (open_from n ds) ≡ list_any q (zip cs ds)
+any_open p q h pre [] n [] l e = refl
+any_open p q h pre [] n (d ∷ ds) l e = absurd (omega (arith, e))
+any_open p q h pre (c ∷ cs) n [] l e = absurd (omega (arith, e))
+any_open p q h pre (c ∷ cs) n (d ∷ ds) l e =
+    let seam : nth (pre ++ c ∷ cs) n ≡ c = subst (λ k. nth (pre ++ c ∷ cs) k ≡ c) l (get_or-append_seam pre c cs _) in
+    let rest : list_any (λ k. p (nth (pre ++ c ∷ cs) k)) (open_from (n + 1) ds) ≡ list_any q (zip cs ds) =
+    ap (λ all. list_any (λ k. p (nth all k)) (open_from (n + 1) ds)) (sym (append_assoc pre (c ∷ []) cs))
+    ∙ any_open p q h (pre ++ c ∷ []) cs (n + 1) ds (length-append pre (c ∷ []) ∙ ap (λ k. k + 1) l) (omega (arith, e)) in
+    any_first (is_open d.report) (λ k. p (nth (pre ++ c ∷ cs) k)) n (open_from (n + 1) ds)
+    ∙ (λ i. (is_open d.report && p (seam i)) || rest i)
+    ∙ ap (λ b. b || list_any q (zip cs ds)) (h c d)

@@ -1,10 +1,13 @@
 -- The commands that were not reported, by their places, and what they carry.
-use Rattle.std.specs.Prelude.{ℕ, ◌+◌, Bool, nat_lt, if◌then◌else◌, List, [], ◌∷◌, ◌++◌, get_or, Option, Some, None}
+use Rattle.std.specs.Prelude.{ℕ, ◌+◌, Bool, ◌&&◌, nat_lt, if◌then◌else◌, List, [], ◌∷◌, ◌++◌, get_or, Option, Some, None, is_some}
+use Rattle.st_base.specs.declared.ids.ClientId.{ClientId}
+use Rattle.st_base.specs.declared.ids.Life.{Life}
+use Rattle.st_base.specs.declared.ids.ServerId.{ServerId}
 use Rattle.st_model.specs.declared.marking.Spare.{Spare}
 use Rattle.st_rules.specs.declared.disks.DiskCommand.{DiskCommand}
 use Rattle.st_rules.specs.declared.world.Carried.{Carried}
 use Rattle.st_rules.specs.declared.world.IssuedCommand.{IssuedCommand}
-use Rattle.st_rules.specs.Admissible.{is_open}
+use Rattle.st_rules.specs.Admissible.{is_command_of, is_open}
 use Rattle.st_rules.specs.World.{owner_carried}
 
 -- the places of the commands that were not reported, rising, the first of these commands at this place
@@ -33,3 +36,7 @@ spares_at cs (k ∷ ks) = spare_of (nth cs k) (nth cs k).carries ++ spares_at cs
 -- a place below a number
 abbrev pub is_below : ℕ → ℕ → Bool
 is_below n k = nat_lt k n
+
+-- the command of a place is a write of this instance of the client, in this life at the server
+abbrev pub is_write_of : ClientId → ServerId → ℕ → Life → List IssuedCommand → ℕ → Bool
+is_write_of c s starts life cs k = is_command_of c s starts life (nth cs k) && is_some (nth cs k).carries

@@ -1,20 +1,22 @@
 // The commands, and the calls on them.
 ghost use Rattle.std.specs.Prelude.{◌≡◌, ◌<◌, ◌^◌, length, slice_get, IfOk, OnOk, OnErr};
+ghost use Rattle.std.specs.List.{list_any, zip};
 ghost use Rattle.std.specs.Option.{option_map};
 ghost use Rattle.st_world_parts.specs.Commands as issued;
 ghost use Rattle.st_world_parts.specs.OutstandingCommands.{open_from};
 ghost use Rattle.st_world_parts.specs.Commands.{SameOpen, Spares};
 ghost use Rattle.st_disk.specs.CommandStates.{standing_of};
+ghost use Rattle.st_rules.specs.Admissible as admissible;
 ghost use Rattle.st_rules.specs.Disks as rules;
 ghost use Rattle.st_rules.specs.Events as events;
 ghost use Rattle.st_rules.specs.World.{numbered};
 
 use crate::issued_row::IssuedRow;
-use crate::outstanding::close;
+use crate::outstanding::{any_write_of, close};
 use crate::owners::{OwnerKey, number_of, put_number};
 use crate::spares::{owner_of, spares_of};
 use indexmap::IndexMap;
-use st_base::{Command, PageBytes, Tag};
+use st_base::{ClientId, Command, Life, PageBytes, ServerId, Tag};
 use st_disk::{CommandState, DiskRefusal, Disks};
 use st_model::Spare;
 use st_rules::{IssuedCommand, LogOwner};
@@ -182,5 +184,20 @@ impl Commands {
         ensures { IfOk result (λ found. Spares found.items self.now) }
     {
         spares_of(*self.issued.allocator(), &self.issued, &self.outstanding)
+    }
+
+    /// Whether a write of this instance of the client, in this life at the server, isn't reported.
+    /// It does not allocate.
+    pub fn has_write_out(&self, client: ClientId, server: ServerId, starts: u64, life: Life) -> bool
+        ensures { result ≡ list_any (admissible.is_write_out client server starts life) (zip self.now.commands self.now.disks.commands) }
+    {
+        any_write_of(
+            &self.issued,
+            &self.outstanding,
+            client,
+            server,
+            starts,
+            life,
+        )
     }
 }

@@ -30,7 +30,7 @@ use Rattle.st_laws_pages.specs.Fates.Fates.{PendingAll, BeforeEnd}
 use Rattle.st_laws_steps.specs.Lives.Lives.{NodeHolds}
 use Rattle.st_laws_pages.specs.Disks.Obligations.{FatesHold}
 use Rattle.st_laws_pages.specs.Flush.Flush.{owner_at_page, DirtyHere, LastFailed, Cared, Covered, FlushHold}
-use Rattle.st_laws_pages.specs.Writes.Writes.{ListsAgree, has_write_out}
+use Rattle.st_laws_pages.specs.Writes.Writes.{ListsAgree}
 use Rattle.st_laws_steps.proofs.Lives.Associations.{own_found}
 use Rattle.st_laws_pages.proofs.Disks.Effects.{or_none}
 use Rattle.st_laws_pages.proofs.Disks.Moves.{clock_is}
@@ -163,16 +163,16 @@ module _ (past : List Step) (w : World) (steps : List ℕ) (r : adm.refusal w (e
 
     -- with a dirty page it was flushed, and the world has no write out
     flushed : (ino : ℕ) (q : PageNo) (d : DirtyPage) → pages.dirty_of a.store.pages ino q ≡ Some d →
-        (adm.has_flushed w l.client a.server l.end ≡ true) × (has_write_out w l.client a.server p.site ≡ false)
+        (adm.has_flushed w l.client a.server l.end ≡ true) × (adm.has_write_out w l.client a.server p.site ≡ false)
     flushed ino q d e =
-        let z = two (adm.has_flushed w l.client a.server (cl.lease_end_with p.site.node.state a.server)) (cl.has_write_with p.site.node.state a.server)
+        let z = two (adm.has_flushed w l.client a.server (cl.lease_end_with p.site.node.state a.server)) (adm.has_write_out w l.client a.server p.site)
         (three p.site.node.running
         (adm.reaches (clock_of w (nodes.Client l.client)) (adm.step_of l.client steps) (cl.lease_end_with p.site.node.state a.server))
         (cl.has_dirty_with p.site.node.state a.server) _ missed runs
         (ap (adm.reaches (clock_of w (nodes.Client l.client)) (adm.step_of l.client steps)) end_is ∙ reached)
         (ap (λ (s : pages.Store). cl.is_any s.pages.dirty) store_is ∙
         any a.store.pages.dirty (found_at (pages.is_dirty_of ino q) a.store.pages.dirty d e).1)) in
-        (ap (adm.has_flushed w l.client a.server) (sym end_is) ∙ z.0, sym (agree l.client p.site p.there runs a p.has) ∙ z.1)
+        (ap (adm.has_flushed w l.client a.server) (sym end_is) ∙ z.0, z.1)
       where
         any : (xs : List DirtyPage) → Has d xs → cl.is_any xs ≡ true
         any [] i = absurd i
@@ -198,7 +198,7 @@ module _ (past : List Step) (w : World) (steps : List ℕ) (r : adm.refusal w (e
     pub dirty_failed : (ino : ℕ) (q : PageNo) (d : DirtyPage) → pages.dirty_of a.store.pages ino q ≡ Some d → FailedAs past w l.client a ino q d
     dirty_failed ino q d e = go (covered z.0 ino q d e)
       where
-        z : (adm.has_flushed w l.client a.server l.end ≡ true) × (has_write_out w l.client a.server p.site ≡ false)
+        z : (adm.has_flushed w l.client a.server l.end ≡ true) × (adm.has_write_out w l.client a.server p.site ≡ false)
         z = flushed ino q d e
 
         unlisted : list_any pages.is_any_write a.store.commands ≡ false

@@ -5,7 +5,7 @@ use Words.{list_any, is_some, eq-eqb, eqb-true, or_cases, BlockAt, Command, Tag,
 use Words.commands
 use Words.io
 use Words.reports
-use Words.Admissible.{is_open}
+use Words.Admissible.{has_write_out, is_open, is_open_write, is_command_of, is_write_out}
 use Words.Client as cl
 use Words.ClientPages as pages
 use Words.ClientState.{Association, is_at}
@@ -21,7 +21,7 @@ use Rattle.st_laws_steps.specs.Lives.Lives.{LivesHold, Once, server_number}
 use Rattle.st_laws_steps.proofs.Lives.Associations.{own_found}
 use Rattle.st_laws_pages.proofs.Disks.Moves.{any_zip}
 use Rattle.st_laws_pages.specs.Causes.Invariants.{CommandsStand}
-use Rattle.st_laws_pages.specs.Writes.Writes.{IsOut, ListedHold, ListsAgree, OpenHold, has_write_out, is_open_write, is_present_command, is_write_out}
+use Rattle.st_laws_pages.specs.Writes.Writes.{IsOut, ListedHold, ListsAgree, OpenHold, has_write_with}
 
 -- a place at which two lists have a pair that passes
 record PassesAt {A B : Type 0} (p : A × B → Bool) (xs : List A) (ys : List B) : Type 0 where
@@ -73,7 +73,7 @@ module _ (w : World) (c : ClientId) (site : WorldClient) (there : site_of w c �
   life_is = ap life_at found
 
   -- a listed write is out
-  out_if_listed : ListedHold w → cl.has_write_with site.node.state a.server ≡ true → has_write_out w c a.server site ≡ true
+  out_if_listed : ListedHold w → has_write_with site.node.state a.server ≡ true → has_write_out w c a.server site ≡ true
   out_if_listed h e = go (some_member_passes pages.is_any_write a.store.commands (ap (λ (s : pages.Store). list_any pages.is_any_write s.commands) (sym store_is) ∙ e))
     where
       out : (n : ℕ) (pc : PageCommand) (o : IsOut w.commands w.disks.commands c site.starts a pc.number) → o.place ≡ n → has_write_out w c a.server site ≡ true
@@ -82,9 +82,9 @@ module _ (w : World) (c : ClientId) (site : WorldClient) (there : site_of w c �
           none : (x : IssuedCommand) → ◌≡◌ {A = Option IssuedCommand} None (Some x) → ⊥
           none x z = cc
       out (suc n) pc o q =
-          any_zip (is_write_out c a.server site) w.commands w.disks.commands n o.command o.disk
+          any_zip (is_write_out c a.server site.starts (life_with site.node.state a.server)) w.commands w.disks.commands n o.command o.disk
           (ap (numbered w.commands) (sym q) ∙ o.there) (ap (disks.command_at w.disks.commands) (sym q) ∙ o.on_disk)
-          (and_both (is_present_command c a.server site o.command) (is_open_write o.command o.disk)
+          (and_both (is_command_of c a.server site.starts (life_with site.node.state a.server) o.command) (is_open_write o.command o.disk)
           (and_both (same_client o.command.client c && (o.command.starts == site.starts))
           (same_server o.command.server a.server && (o.command.life.0 == (life_with site.node.state a.server).0))
           (and_both (same_client o.command.client c) (o.command.starts == site.starts)
@@ -101,10 +101,10 @@ module _ (w : World) (c : ClientId) (site : WorldClient) (there : site_of w c �
 
   -- a write that is out is listed
   listed_if_out : OpenHold w → CommandsStand w.log w.commands w.disks.commands → has_write_out w c a.server site ≡ true →
-      cl.has_write_with site.node.state a.server ≡ true
-  listed_if_out h stand e = at (passes_at (is_write_out c a.server site) w.commands w.disks.commands e)
+      has_write_with site.node.state a.server ≡ true
+  listed_if_out h stand e = at (passes_at (is_write_out c a.server site.starts (life_with site.node.state a.server)) w.commands w.disks.commands e)
     where
-      at : PassesAt (is_write_out c a.server site) w.commands w.disks.commands → cl.has_write_with site.node.state a.server ≡ true
+      at : PassesAt (is_write_out c a.server site.starts (life_with site.node.state a.server)) w.commands w.disks.commands → has_write_with site.node.state a.server ≡ true
       at z = what d.what refl
         where
           x : IssuedCommand
@@ -113,8 +113,8 @@ module _ (w : World) (c : ClientId) (site : WorldClient) (there : site_of w c �
           d : DiskCommand
           d = z.second
 
-          both : (is_present_command c a.server site x ≡ true) × (is_open_write x d ≡ true)
-          both = and_true (is_present_command c a.server site x) (is_open_write x d) z.passes
+          both : (is_command_of c a.server site.starts (life_with site.node.state a.server) x ≡ true) × (is_open_write x d ≡ true)
+          both = and_true (is_command_of c a.server site.starts (life_with site.node.state a.server) x) (is_open_write x d) z.passes
 
           present : ((same_client x.client c && (x.starts == site.starts)) ≡ true) ×
               ((same_server x.server a.server && (x.life.0 == (life_with site.node.state a.server).0)) ≡ true)
@@ -130,7 +130,7 @@ module _ (w : World) (c : ClientId) (site : WorldClient) (there : site_of w c �
           open_write : (is_some x.carries ≡ true) × (is_open d.report ≡ true)
           open_write = and_true (is_some x.carries) (is_open d.report) both.1
 
-          what : (k : Command) → d.what ≡ k → cl.has_write_with site.node.state a.server ≡ true
+          what : (k : Command) → d.what ≡ k → has_write_with site.node.state a.server ≡ true
           what (commands.Read b) q = clash open_write.0 (ap is_some (stand.reads (suc z.place) x d b z.first_is z.second_is q))
           what (commands.Write b tag bytes) q =
               let l =
@@ -141,8 +141,8 @@ module _ (w : World) (c : ClientId) (site : WorldClient) (there : site_of w c �
               some_passes pages.is_any_write a.store.commands l.listed.command l.listed.here (ap pages.is_write l.listed.kind)
 
   agrees : ListedHold w → OpenHold w → CommandsStand w.log w.commands w.disks.commands →
-      cl.has_write_with site.node.state a.server ≡ has_write_out w c a.server site
-  agrees h o stand = same_truth (cl.has_write_with site.node.state a.server) (has_write_out w c a.server site) (out_if_listed h) (listed_if_out o stand)
+      has_write_with site.node.state a.server ≡ has_write_out w c a.server site
+  agrees h o stand = same_truth (has_write_with site.node.state a.server) (has_write_out w c a.server site) (out_if_listed h) (listed_if_out o stand)
 
 pub lists_agree : (w : World) → LivesHold w → ListedHold w → OpenHold w → CommandsStand w.log w.commands w.disks.commands → ListsAgree w
 lists_agree w l h o stand c site there runs a has = agrees w c site there runs a has (l.lives.sites c site there).once h o stand

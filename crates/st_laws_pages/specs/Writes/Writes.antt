@@ -1,5 +1,5 @@
 -- Write commands that are not reported are outstanding at the clients that submitted them, and those alone.
-use Rattle.std.specs.Prelude.{◌≡◌, ℕ, ◌==◌, Bool, ◌&&◌, true, List, zip, Some, None, is_some}
+use Rattle.std.specs.Prelude.{◌≡◌, ℕ, Bool, true, List, Some, None, is_some}
 use Rattle.std.specs.List.{list_any}
 use Rattle.st_base.specs.declared.disk.BlockAt.{BlockAt}
 use Rattle.st_base.specs.declared.disk.Command.TheVariants as commands
@@ -12,14 +12,13 @@ use Rattle.st_rules.specs.declared.disks.DiskCommand.{DiskCommand}
 use Rattle.st_rules.specs.declared.disks.Report.TheVariants as reports
 use Rattle.st_rules.specs.declared.pages.DirtyPage.{DirtyPage}
 use Rattle.st_rules.specs.declared.world.IssuedCommand.{IssuedCommand}
-use Rattle.st_rules.specs.Admissible.{is_open}
-use Rattle.st_rules.specs.Client.{has_write_with}
-use Rattle.st_rules.specs.ClientPages.{dirty_of}
-use Rattle.st_rules.specs.ClientState.{Association}
+use Rattle.st_rules.specs.Admissible.{has_write_out}
+use Rattle.st_rules.specs.Client.{association_with, store_at}
+use Rattle.st_rules.specs.ClientPages.{dirty_of, is_any_write}
+use Rattle.st_rules.specs.ClientState.{Association, ClientState}
 use Rattle.st_rules.specs.Disks as disks
-use Rattle.st_rules.specs.Keys.{same_client, same_server}
 use Rattle.st_rules.specs.Safety.{Promise}
-use Rattle.st_rules.specs.World.{World, WorldClient, life_with, numbered, site_of}
+use Rattle.st_rules.specs.World.{World, WorldClient, numbered, site_of}
 use Rattle.st_lemmas.specs.Lists.{Has}
 
 -- a write of this number, for the page of a tag, is outstanding at an association, and its page is dirty
@@ -98,22 +97,9 @@ ListedHold w =
 abbrev pub ListedAfter : Promise
 ListedAfter past x = ListedHold x.after.world
 
--- a command of a client at a server, since its last start and in its present life there
-abbrev pub is_present_command : ClientId → ServerId → WorldClient → IssuedCommand → Bool
-is_present_command c s site x =
-    (same_client x.client c && (x.starts == site.starts)) && (same_server x.server s && (x.life.0 == (life_with site.node.state s).0))
-
--- a write that the disks have not reported
-abbrev pub is_open_write : IssuedCommand → DiskCommand → Bool
-is_open_write x d = is_some x.carries && is_open d.report
-
--- such a write of the client at the server
-abbrev pub is_write_out : ClientId → ServerId → WorldClient → IssuedCommand × DiskCommand → Bool
-is_write_out c s site x = is_present_command c s site x.0 && is_open_write x.0 x.1
-
--- the world has one
-abbrev pub has_write_out : World → ClientId → ServerId → WorldClient → Bool
-has_write_out w c s site = list_any (is_write_out c s site) (zip w.commands w.disks.commands)
+-- a client lists a write of a page of the server
+abbrev pub has_write_with : ClientState → ServerId → Bool
+has_write_with c s = list_any is_any_write (store_at (association_with c s)).commands
 
 -- a client that runs lists a write exactly if the world has one
 abbrev pub ListsAgree : World → Type 0
