@@ -151,8 +151,8 @@ module _ (k : Config) (c : ClientId) (s : ServerId) (gap d : ℕ) (read : World 
       abbrev S : ClientSession → Type 0
       S z = HasSession k c s gap d read delay since past ms n.sessions life epoch t.last z
 
-      abbrev S2 : ClientSession → Type 0
-      S2 z = HasSession k c s gap d read delay since past2 ns n.sessions life epoch t.last z
+      abbrev HeldAfter : ClientSession → Type 0
+      HeldAfter z = HasSession k c s gap d read delay since past2 ns n.sessions life epoch t.last z
 
       -- a session, and its lease, is young if nothing is asked
       abbrev Ready : ClientSession → Type 0
@@ -286,7 +286,7 @@ module _ (k : Config) (c : ClientId) (s : ServerId) (gap d : ℕ) (read : World 
         record Held (o : Option ClientSession) : Type 0 where
           session : ClientSession
           is : o ≡ Some session
-          holds : S2 session
+          holds : HeldAfter session
           ready : Ready session
           next : session.requests.next ≡ z.requests.next
           releases : Longer z.releases session.releases
@@ -510,7 +510,7 @@ module _ (k : Config) (c : ClientId) (s : ServerId) (gap d : ℕ) (read : World 
         same : (v : ClientSession) → b.session ≡ Some v → v.requests.next ≡ next → since2 ≡ since
 
       -- no request was sent under the next number
-      module _ (u : ClientSession) (held : S2 u) (next : ℕ) (none : (m : Message) → Has m ms → To c s m → m.header.life ≡ life → m.header.epoch ≡ epoch →
+      module _ (u : ClientSession) (held : HeldAfter u) (next : ℕ) (none : (m : Message) → Has m ms → To c s m → m.header.life ≡ life → m.header.epoch ≡ epoch →
           m.header.number ≡ u.requests.next → ⊥) where
         passed : Ready u → IsPassed now u b.session → Passed u.requests.next
         passed ready y = record {
@@ -743,7 +743,7 @@ module _ (k : Config) (c : ClientId) (s : ServerId) (gap d : ℕ) (read : World 
         data Second (o : Option ClientSession) : Type 0 where
           IsNone : o ≡ None → (is_some a.greeting ≡ true → is_some walk.second.greeting ≡ true) →
               ((stamp : ℕ) → Hailed k c s gap d past ms life stamp → Hailed k c s gap d past2 ns life stamp) → Second o
-          IsBegun : (u : ClientSession) → o ≡ Some u → S2 u → Ready u → u.requests.next ≡ 1 → Second o
+          IsBegun : (u : ClientSession) → o ≡ Some u → HeldAfter u → Ready u → u.requests.next ≡ 1 → Second o
 
         -- a greeting's trip goes on, if its welcome wasn't delivered, or came too late
         hailed_on : (stamp : ℕ) → ((f : ℕ) (y : Message) → numbered ms f ≡ Some y → WelcomesAt k c s gap d life stamp y →

@@ -1,26 +1,21 @@
 -- The asks of each client are counted, and each pending leave was asked.
 use Rattle.st_lemmas.proofs.Words
-use Words.{◌≡◌, ◌≢◌, ◌≤◌, ◌+◌, ◌⊎◌, ◌==◌, ℕ, zero, suc, Bool, true, false, List, [], ◌∷◌, ◌++◌, cons_option, filter_map, length, map, map-append, Option, Some, None, refl, sym, ap, ◌∙◌, subst, inl, inr, arith, append-nil, append_assoc, if◌then◌else◌, length-append, ne_eqb, slice_get}
+use Words.{◌≡◌, ◌≢◌, ◌≤◌, ◌+◌, ◌⊎◌, ℕ, suc, List, [], ◌∷◌, ◌++◌, cons_option, filter_map, length, map, map-append, Some, None, sym, ap, ◌∙◌, subst, inl, inr, arith, append-nil, append_assoc, if◌then◌else◌, length-append, ne_eqb}
 use Words.{Ask, ClientId, ServerId}
 use Words.asks
-use Words.events
-use Words.nodes
-use Words.Client as plain
 use Words.Events as ev
-use Words.Keys.{same_client}
 use Words.Lists.{Has}
 use Words.Lookups.{some_is}
 use Words.Numbers.{get_last, numbered_below, numbered_old, numbered_other, numbered_own}
 use Words.Tables.{same_or_not}
 use Words.Truth.{eqb_self, none_not_some}
-use Words.World.{WorldClient, clock_of, numbered, site_of}
+use Words.World.{WorldClient, numbered, site_of}
 use Rattle.std.proofs.lemmas.List.Elements.{filter_map-append}
 use Rattle.st_rules.specs.Safety.{ask_in, ask_of, ask_of_client, event_of}
 use Rattle.st_third.specs.declared.beside.Leave.{Leave}
 use Rattle.st_third.specs.declared.event.ThirdEvent.{ThirdEvent}
 use Rattle.st_third.specs.declared.event.ThirdInput.{ThirdInput}
 use Rattle.st_third.specs.Events as every
-use Rattle.st_third.specs.Events.{ThirdWorldTurn}
 use Rattle.st_third.specs.Promises.{server_left}
 use Rattle.st_third.specs.State.{ClientBeside, ThirdClientTurn}
 use Rattle.st_third.specs.Steps.{ThirdStep, no_file, plain_event, plain_step}

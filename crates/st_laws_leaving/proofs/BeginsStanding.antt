@@ -1,25 +1,20 @@
 -- A node crashes or starts: what is between clients and servers is kept.
 use Rattle.st_lemmas.proofs.Words
-use Words.{◌≡◌, ◌≢◌, ◌≤◌, ◌<◌, ◌+◌, ◌-◌, ◌⊎◌, ◌==◌, ℕ, Bool, true, false, List, [], ◌∷◌, map, Option, Some, None, Ok, length, refl, sym, ap, ◌∙◌, subst, inl, inr, arith, eqb-true, nat_le, leb-true, if◌then◌else◌}
-use Words.{Body, ClientId, Config, Life, Message, NodeId, SentMessage, ServerId, ServerInput, Session, Stamp}
+use Words.{◌≡◌, ◌≢◌, ◌≤◌, ◌+◌, ◌⊎◌, ℕ, true, List, [], ◌∷◌, map, Some, None, refl, sym, ap, ◌∙◌, subst, inl, inr, arith}
+use Words.{ClientId, Message, ServerId, Session}
 use Words.bodies
-use Words.nodes
-use Words.outputs
-use Words.Client as plain
-use Words.ClientState.{Association, ClientSession, ClientState}
-use Words.Events as ev
+use Words.ClientState.{Association}
 use Words.Events.{quiet}
-use Words.Keys.{client, server_node}
+use Words.Keys.{server_node}
 use Words.Lists.{Has}
 use Words.Lookups.{some_is}
 use Words.Server as server
-use Words.Server.{ServerNode, ServerState}
+use Words.Server.{ServerNode}
 use Words.Sessions as sessions
 use Words.Sessions.{session_of}
 use Words.Tables.{has_map, same_or_not}
 use Words.Truth.{none_not_some}
-use Words.World as world
-use Words.World.{World, WorldClient, clock_of, message_of, node_of, numbered, site_of, with_numbered}
+use Words.World.{World, WorldClient, node_of, numbered, site_of}
 use Rattle.st_third.specs.declared.limits.Limits.{Limits}
 use Rattle.st_third.specs.Limits.{limited_association}
 use Rattle.st_laws_leaving.specs.Going.{Apart, IsNumbered}

@@ -18,7 +18,7 @@ use Words.Truth.{not_both}
 use Rattle.st_rules.specs.declared.input.ServerInput.TheVariants.{Tick, Control}
 use Rattle.st_third.specs.Limits.{is_client_node}
 use Rattle.st_trace.specs.Server.Edits as edits
-use Rattle.st_trace.specs.Server.Edits.{AtDemands, AtGrants, AtInput, AtSuspicion, AtThefts, EditOf, GreetedOf, Phase}
+use Rattle.st_trace.specs.Server.Edits.{AtDemands, AtGrants, AtInput, AtSuspicion, AtThefts, EditOf, Phase}
 use Rattle.st_trace.specs.Server.Steps.{step_of, take_of}
 use Rattle.st_trace.proofs.Server.Input.{input_once_of, thefts_begun, walk_of_thefts_of}
 use Rattle.st_trace.proofs.Server.Walk.{walk_of_demanding_of, walk_of_granting_of, walk_of_suspecting_of}

@@ -6,7 +6,7 @@ use Words.answers
 use Words.bodies
 use Words.outputs
 use Words.Client as plain
-use Words.ClientState.{Association, ClientSession, is_at}
+use Words.ClientState.{Association, is_at}
 use Words.Keys.{server_node}
 use Words.Lists.{Has}
 use Words.Tables.{has_append}
@@ -33,7 +33,7 @@ use Rattle.st_laws_third.proofs.Leaving.{loses, takes_leave}
 use Rattle.st_laws_third.proofs.Pairs as paired
 use Rattle.st_laws_third.proofs.Passing.{passes_change}
 use Rattle.st_laws_third.proofs.Receiving.{receives}
-use Rattle.st_laws_leaving.specs.Going.{AllNumbered, Apart, AtLeft, ClientGoes, ClientsAreCalmUntilTheyAsk, EpochOf, HasBegunBy, HeardFrom, IsNumbered, IsWelcomed, LeftsOf, OfMessage, OfSession, SentWell, Unasked, Went}
+use Rattle.st_laws_leaving.specs.Going.{AllNumbered, Apart, AtLeft, ClientsAreCalmUntilTheyAsk, EpochOf, HasBegunBy, IsNumbered, LeftsOf, OfMessage, OfSession, Went}
 use Rattle.st_laws_leaving.proofs.Going.{Goes, LeftWord, LeftsAt, at_left_then, changes_go, finishes_go, goes_still, loses_go, passes_go, same_leaves, went_then}
 
 -- What was heard may be more.

@@ -1,7 +1,7 @@
 -- What becomes of a client's session with a server while a rule goes on, and what it says to the server.
 use Rattle.st_lemmas.proofs.Words
-use Words.{◌≡◌, ◌≤◌, ◌<◌, ◌+◌, ◌⊎◌, ◌==◌, ◌&&◌, ℕ, Bool, true, false, not, List, [], ◌∷◌, ◌++◌, map, Option, Some, None, refl, sym, ap, ◌∙◌, subst, inl, inr, arith, append-nil, append_assoc, eqb-true}
-use Words.{Body, ClientId, Config, DemandedFile, GrantNo, Header, HeldLock, Life, Message, Mode, Output, Request, ServerId, Stamp}
+use Words.{◌≡◌, ◌≤◌, ◌<◌, ◌+◌, ◌⊎◌, ◌==◌, ℕ, Bool, true, false, not, List, [], ◌∷◌, ◌++◌, map, Option, Some, None, refl, sym, ap, ◌∙◌, subst, inl, inr, arith, append-nil, append_assoc, eqb-true}
+use Words.{ClientId, DemandedFile, HeldLock, Life, Message, Request, ServerId, Stamp}
 use Words.bodies
 use Words.notes
 use Words.outputs
@@ -9,7 +9,6 @@ use Words.Client as plain
 use Words.ClientLocks as locks
 use Words.ClientPages.{Store}
 use Words.ClientPasses as passes
-use Words.ClientReplies.{new_session}
 use Words.ClientState.{Association, ClientSession, Requests, Turn, asking}
 use Words.Keys.{server_node}
 use Words.Lists.{Has}
@@ -26,9 +25,9 @@ use Rattle.st_third.specs.declared.output.ThirdOutput.{ThirdOutput}
 use Rattle.st_third.specs.declared.output.ThirdOutput.TheVariants as says
 use Rattle.st_third.specs.Leave as leaving
 use Rattle.st_third.specs.Leave.{is_unasked}
-use Rattle.st_third.specs.State.{ThirdTurn, all_said, here, is_leave_of, plain_output, plainly, session}
+use Rattle.st_third.specs.State.{ThirdTurn, all_said, here, plain_output, plainly, session}
 use Rattle.st_third.specs.UsedOnce.{reduced}
-use Rattle.st_laws_third.specs.Changes.{AsksRight, Bounds, Continues, EpochFrom, GoesOnBy, HasLeave, Heard, HeardMessage, Hears, NewerEpoch, SameEpoch, Sends, Greets, Sees, Asks}
+use Rattle.st_laws_third.specs.Changes.{AsksRight, Bounds, Continues, EpochFrom, HasLeave, Heard, NewerEpoch, SameEpoch, Sends, Greets, Sees, Asks}
 use Rattle.st_laws_third.specs.Changes.{ArePending, ThirdChange, Plainly, Says, Leaves, IsBeside, WaitsForRoom, Begins, GivesBack, Reduces, bounds}
 use Rattle.st_laws_third.specs.Changes.{ThirdChanges, Still, Then, ThirdFinishes, ThirdLeaves, HasLeft, Stays, ThirdLoses, IsLost, Lasts, ThirdPasses, with_plain}
 use Rattle.st_laws_third.proofs.Facts.{SaysMore, WordRight, change_says, change_third}

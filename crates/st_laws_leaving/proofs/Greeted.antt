@@ -1,6 +1,6 @@
 -- A server welcomes at once whoever greets it and has nothing there, outside grace.
 use Rattle.st_lemmas.proofs.Words
-use Words.{◌≡◌, ◌≤◌, ◌<◌, ◌==◌, ℕ, Bool, true, false, not, [], ◌∷◌, Option, Some, None, option_map, refl, sym, ap, ◌∙◌, subst, inl, inr, arith, if◌then◌else◌, is_some, eq-eqb, ltb-true, nat_lt, ne_eqb}
+use Words.{◌≡◌, ◌≤◌, ◌==◌, ℕ, Bool, true, false, not, [], Option, Some, None, option_map, refl, sym, ap, ◌∙◌, subst, inl, inr, arith, if◌then◌else◌, is_some, eq-eqb, ltb-true, nat_lt, ne_eqb}
 use Words.{ClientId, Message, ServerId, ServerInput, Session, Stamp, Suspect}
 use Words.bodies
 use Words.outputs

@@ -1,7 +1,7 @@
 -- A client that left is welcomed at once, if its greeting is delivered outside grace.
 use Rattle.st_lemmas.proofs.Words
-use Words.{◌≡◌, ◌≤◌, ◌+◌, ◌-◌, ◌==◌, ◌&&◌, ◌||◌, ℕ, Bool, true, false, not, List, [], ◌∷◌, find, map, Option, Some, None, Ok, length, refl, sym, ap, ◌∙◌, subst, inl, inr, arith, if◌then◌else◌, eq-eqb, eqb-true, le-leb, leb-true, nat_le}
-use Words.{Body, ClientId, Message, NodeId, Observation, Output, SentMessage, ServerId, Session}
+use Words.{◌≡◌, ◌≤◌, ◌+◌, ◌-◌, ◌==◌, ◌&&◌, ◌||◌, ℕ, Bool, true, false, not, List, [], ◌∷◌, find, Option, Some, None, Ok, length, refl, sym, ap, ◌∙◌, subst, inl, inr, arith, if◌then◌else◌, eq-eqb, eqb-true, le-leb, leb-true, nat_le}
+use Words.{Body, Message, Observation, Output, SentMessage, ServerId, Session}
 use Words.bodies
 use Words.events
 use Words.nodes
@@ -18,7 +18,7 @@ use Words.Sessions.{session_of}
 use Words.Tables.{and_both, and_true, found_at, has_map_in, none_has, not_true}
 use Words.Truth.{clash, false_not_true}
 use Words.World as world
-use Words.World.{World, WorldClient, clock_of, is_running, message_of, node_of, node_runs, numbered, site_of}
+use Words.World.{World, WorldClient, clock_of, is_running, message_of, node_of, node_runs, numbered}
 use Rattle.st_rules.specs.declared.observation.Observation.TheVariants as plain_seen
 use Rattle.st_third.specs.declared.event.ThirdEvent.{ThirdEvent}
 use Rattle.st_third.specs.declared.event.ThirdEvent.TheVariants as third
@@ -26,7 +26,7 @@ use Rattle.st_third.specs.declared.observation.ThirdObservation.TheVariants as s
 use Rattle.st_third.specs.Events as every
 use Rattle.st_third.specs.Events.{ThirdWorldTurn, third_counted}
 use Rattle.st_third.specs.Limits.{is_client_node, is_third, most_clients, node_at}
-use Rattle.st_third.specs.Promises.{Leaver, delivered_by, greets, is_greeting, is_in_grace, is_its_greeting, is_welcomed, life_of, message_at, welcomes}
+use Rattle.st_third.specs.Promises.{Leaver, greets, is_greeting, is_in_grace, is_its_greeting, is_welcomed, life_of, message_at, welcomes}
 use Rattle.st_third.specs.Server as hearing
 use Rattle.st_third.specs.Steps as steps
 use Rattle.st_third.specs.Steps.{ThirdStep, ThirdTraced}

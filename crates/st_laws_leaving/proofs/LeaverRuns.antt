@@ -1,7 +1,7 @@
 -- In every run of the third form, a client that left has neither row nor wait at its server, until it asks again.
 use Rattle.st_lemmas.proofs.Words
-use Words.{◌≡◌, ◌≢◌, ◌+◌, ℕ, zero, suc, Bool, true, false, not, List, [], ◌∷◌, ◌++◌, length, map, Option, Some, None, refl, sym, ap, ◌∙◌, subst, ne_eqb}
-use Words.{ClientId, Config, ServerId, WorldRefusal}
+use Words.{◌≡◌, ◌+◌, ℕ, Bool, true, false, not, List, [], ◌∷◌, ◌++◌, map, Option, Some, None, refl, sym, ap, ◌∙◌, subst, ne_eqb}
+use Words.{ClientId, Config, WorldRefusal}
 use Words.events
 use Words.nodes
 use Words.refusals
@@ -11,7 +11,6 @@ use Words.Lists.{Has}
 use Words.Numbers.{numbered_has}
 use Words.Server.{ServerNode}
 use Words.Tables.{all_pass, and_both, has_map}
-use Words.Truth.{none_not_some}
 use Words.World.{World, WorldClient, fresh_world, is_running, node_of, numbered, site_of, site_runs}
 use Rattle.std.specs.Option.{option_or}
 use Rattle.st_lemmas.proofs.Once.{none_any}
@@ -24,7 +23,6 @@ use Rattle.st_third.specs.declared.event.ThirdInput.TheVariants as takes
 use Rattle.st_third.specs.declared.limits.Limits.{Limits}
 use Rattle.st_third.specs.Events as every
 use Rattle.st_third.specs.Events.{ThirdWorldTurn, third_counted}
-use Rattle.st_third.specs.Limits.{IsHead}
 use Rattle.st_third.specs.Promises.{Leaver, has_nothing, has_nothing_at, left_along, left_from}
 use Rattle.st_third.specs.State.{ClientBeside, fresh_beside_client}
 use Rattle.st_third.specs.Steps as steps

@@ -1,12 +1,12 @@
 -- Who left has nothing: each event keeps it.
 use Rattle.st_lemmas.proofs.Words
-use Words.{◌≡◌, ◌≢◌, ◌≤◌, ◌+◌, ◌⊎◌, ℕ, true, false, not, List, [], ◌∷◌, ◌++◌, filter_map, length, map, Option, Some, None, Ok, refl, sym, ap, ◌∙◌, subst, inl, inr, arith, if◌then◌else◌}
-use Words.{Ask, ClientId, Message, Observation, ServerId, ServerInput}
+use Words.{◌≡◌, ◌≢◌, ◌≤◌, ◌+◌, ◌⊎◌, ℕ, true, List, [], length, map, Some, Ok, refl, sym, ap, ◌∙◌, subst, inl, inr, arith, if◌then◌else◌}
+use Words.{ClientId, Message, Observation, ServerId, ServerInput}
 use Words.events
 use Words.nodes
 use Words.Client as plain
 use Words.Events as ev
-use Words.Events.{WorldTurn, asked_once_more, quiet}
+use Words.Events.{asked_once_more, quiet}
 use Words.Lists.{Has}
 use Words.Lookups.{some_is}
 use Words.Numbers.{numbered_below, numbered_other, numbered_own}

@@ -1,25 +1,25 @@
 -- A client that has nothing at a server still has nothing after a step in which it does no harm; and a session begins with nothing.
 use Rattle.st_lemmas.proofs.Words
-use Words.{◌≡◌, ◌≢◌, ◌<◌, ◌≤◌, ◌+◌, ◌||◌, ℕ, ◌⊎◌, Bool, true, false, not, List, [], ◌∷◌, ◌==◌, refl, sym, ap, ◌∙◌, subst, inl, inr, arith, cond, filter, find, map, Option, Some, None, option_map}
-use Words.{if◌then◌else◌, eq-eqb, eqb-true, is_some, lt-ltb, ne_eqb, nat_lt, Body, ClientId, Header, Life, LockRow, Message, Mode, ServerInput, Session, Stamp, Suspect, Waiter}
+use Words.{◌≡◌, ◌≢◌, ◌<◌, ◌≤◌, ℕ, ◌⊎◌, Bool, true, false, not, List, [], ◌∷◌, ◌==◌, refl, sym, ap, ◌∙◌, subst, inl, inr, arith, filter, find, map, Option, Some, None, option_map}
+use Words.{if◌then◌else◌, eq-eqb, eqb-true, is_some, lt-ltb, ne_eqb, Body, ClientId, Header, Life, LockRow, Message, ServerInput, Session, Stamp, Suspect, Waiter}
 use Words.bodies
 use Words.Authority as authority
 use Words.Authority.{Authority}
 use Words.Lists.{Has}
 use Words.Locks as locks
-use Words.Locks.{Locks, is_row_by, is_wait_by}
+use Words.Locks.{is_row_by, is_wait_by}
 use Words.Lookups.{or_left, some_is}
 use Words.Members.{some_member_passes}
 use Words.Server as sv
-use Words.Server.{ServerState, ServerTurn, keep_and_reply, life_in, reply, sender, steal_from, suspect_client, tell, turn}
+use Words.Server.{ServerState, ServerTurn, keep_and_reply, life_in, reply, sender, steal_from, suspect_client, tell}
 use Words.Serving.{has_suspect}
 use Words.Sessions as sessions
 use Words.Sessions.{Sessions, is_live, session_of}
-use Words.Tables.{cond_either, find_gone_in, found_at, has_append, has_filter, has_map, none_has, not_true, same_or_not}
+use Words.Tables.{found_at, has_append, has_filter, has_map, none_has, same_or_not}
 use Words.Truth.{clash, none_not_some, not_both}
 use Rattle.st_third.specs.Limits.{is_client_node}
 use Rattle.st_trace.specs.Server.Edits as edits
-use Rattle.st_trace.specs.Server.Edits.{AtDemands, AtGrants, AtInput, AtSuspicion, AtThefts, EditOf, Phase}
+use Rattle.st_trace.specs.Server.Edits.{EditOf, Phase}
 use Rattle.st_trace.specs.Server.Steps.{step_of}
 use Rattle.st_trace.proofs.Server.Walk.{walk_of}
 use Rattle.st_laws_leaving.specs.Serving.{ComesHarmlessly, HasNothing, IsCalm, IsHarmless, IsPast, LivesOn}

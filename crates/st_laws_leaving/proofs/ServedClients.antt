@@ -1,7 +1,7 @@
 -- Whoever has a row or a wait at a server has a session that lives there. A session has its client's life from before, or that of the message that comes. And
 -- what the server says has its epoch, and no welcome but in answer to a greeting.
 use Rattle.st_lemmas.proofs.Words
-use Words.{◌≡◌, ◌≢◌, ℕ, ◌⊎◌, Bool, true, false, not, List, [], ◌∷◌, ◌==◌, refl, sym, ap, ◌∙◌, subst, inl, inr, cond, map, Option, Some, None, option_map}
+use Words.{◌≡◌, ◌≢◌, ℕ, ◌⊎◌, Bool, true, not, List, [], ◌∷◌, ◌==◌, refl, sym, ap, ◌∙◌, subst, inl, inr, map, Option, Some, None, option_map}
 use Words.{eq-eqb, eqb-true, ne_eqb, AcceptRefusal, ClientId, Life, Stamp, Mode, Header, Body, Message, Output, ServerInput, LockRow, Waiter, Session, SessionState}
 use Words.bodies
 use Words.modes
@@ -13,7 +13,7 @@ use Words.Locks as locks
 use Words.Locks.{Locks, is_row_by, is_row_of, is_wait_by}
 use Words.Lookups.{some_is}
 use Words.Server as sv
-use Words.Server.{ServerState, ServerTurn, keep_and_reply, life_in, reply, sender, steal_from, suspect_client, tell, turn}
+use Words.Server.{ServerState, ServerTurn, keep_and_reply, life_in, reply, sender, steal_from, suspect_client, tell}
 use Words.Serving.{end_client}
 use Words.Sessions as sessions
 use Words.Sessions.{Sessions, is_live, session_of}

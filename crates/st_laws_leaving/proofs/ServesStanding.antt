@@ -1,12 +1,11 @@
 -- A server takes an input: what is between clients and servers is kept.
 use Rattle.st_lemmas.proofs.Words
-use Words.{◌≡◌, ◌≢◌, ◌≤◌, ◌<◌, ◌+◌, ◌-◌, ◌⊎◌, ◌==◌, ℕ, Bool, true, false, List, [], ◌∷◌, map, Option, Some, None, Ok, length, refl, sym, ap, ◌∙◌, subst, inl, inr, arith, eqb-true, nat_le, leb-true, if◌then◌else◌}
-use Words.{Body, ClientId, Config, Life, Message, NodeId, SentMessage, ServerId, ServerInput, Session, Stamp}
+use Words.{◌≡◌, ◌≢◌, ◌≤◌, ◌<◌, ◌+◌, ◌⊎◌, ℕ, true, Option, Some, None, Ok, refl, sym, ap, ◌∙◌, subst, inl, inr, arith}
+use Words.{ClientId, Message, ServerId, ServerInput, Session, Stamp}
 use Words.bodies
 use Words.nodes
 use Words.outputs
-use Words.Client as plain
-use Words.ClientState.{Association, ClientSession, ClientState}
+use Words.ClientState.{Association}
 use Words.Events as ev
 use Words.Events.{quiet}
 use Words.Keys.{client, server_node}
@@ -14,17 +13,14 @@ use Words.Lists.{Has}
 use Words.Lookups.{some_is}
 use Words.Numbers.{numbered_below, numbered_has, numbered_other, numbered_own}
 use Words.Server as server
-use Words.Server.{ServerNode, ServerState}
-use Words.Sessions as sessions
+use Words.Server.{ServerNode}
 use Words.Sessions.{session_of}
 use Words.Tables.{same_or_not}
 use Words.Truth.{none_not_some}
-use Words.World as world
-use Words.World.{World, WorldClient, clock_of, message_of, node_of, numbered, site_of, with_numbered}
+use Words.World.{World, WorldClient, clock_of, node_of, numbered}
 use Rattle.st_rules.specs.declared.input.ServerInput.TheVariants as serving
 use Rattle.st_third.specs.declared.event.ThirdEvent.{ThirdEvent}
 use Rattle.st_third.specs.Events as every
-use Rattle.st_third.specs.Events.{ThirdWorldTurn}
 use Rattle.st_third.specs.Server as hearing
 use Rattle.st_third.specs.World.{ThirdWorld}
 use Rattle.st_laws_third.proofs.DemandsSeen.{People}

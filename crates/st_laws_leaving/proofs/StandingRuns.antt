@@ -19,7 +19,7 @@ use Rattle.st_third.specs.declared.event.ThirdEvent.{ThirdEvent}
 use Rattle.st_third.specs.declared.limits.Limits.{Limits}
 use Rattle.st_third.specs.Events as every
 use Rattle.st_third.specs.Events.{ThirdWorldTurn, third_counted}
-use Rattle.st_third.specs.Limits.{IsHead, limited_association, limited_node, limited_site, with_limits}
+use Rattle.st_third.specs.Limits.{limited_association, limited_node, limited_site, with_limits}
 use Rattle.st_third.specs.Promises.{ThirdPromise, Throughout}
 use Rattle.st_third.specs.Steps as steps
 use Rattle.st_third.specs.Steps.{ThirdStep, ThirdTraced}

@@ -18,7 +18,6 @@ use Rattle.st_laws_steps.specs.Client.Losses.{Fit}
 use Rattle.st_third.specs.declared.event.ThirdEvent.{ThirdEvent}
 use Rattle.st_third.specs.declared.event.ThirdInput.{ThirdInput}
 use Rattle.st_third.specs.Events as every
-use Rattle.st_third.specs.Events.{ThirdWorldTurn}
 use Rattle.st_third.specs.State.{ClientBeside, ThirdClientTurn}
 use Rattle.st_third.specs.World.{ThirdWorld, beside_of}
 use Rattle.st_laws_third.specs.Changes.{Heard, HeardMessage}

@@ -10,12 +10,10 @@ use Words.ClientState.{Association, ClientState}
 use Words.Events as ev
 use Words.Keys.{server_node}
 use Words.Lists.{Has}
-use Words.Server as server
 use Words.Server.{ServerNode}
-use Words.World.{World, WorldClient, clock_of, node_of, numbered, site_of}
+use Words.World.{WorldClient, clock_of, node_of, numbered, site_of}
 use Rattle.st_third.specs.declared.event.ThirdEvent.{ThirdEvent}
 use Rattle.st_third.specs.declared.event.ThirdInput.{ThirdInput}
-use Rattle.st_third.specs.declared.limits.Limits.{Limits}
 use Rattle.st_third.specs.declared.output.ThirdOutput.TheVariants as says
 use Rattle.st_third.specs.Client.{client_step}
 use Rattle.st_third.specs.Events as every
@@ -32,7 +30,6 @@ use Rattle.st_laws_third.proofs.Sound.{Sound}
 use Rattle.st_laws_leaving.specs.Going.{ClientGoes}
 use Rattle.st_laws_leaving.specs.Leavers.{HasHome}
 use Rattle.st_laws_leaving.specs.Quiet.{IsSent, IsTo, Standing}
-use Rattle.st_laws_leaving.specs.Serving.{ServesOn}
 use Rattle.st_laws_leaving.proofs.Betweens.{standing_as}
 use Rattle.st_laws_leaving.proofs.Homes.{home_after}
 use Rattle.st_laws_leaving.proofs.Posts.{ClientSays, lost_sent, took_post}

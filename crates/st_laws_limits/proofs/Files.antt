@@ -1,6 +1,6 @@
 -- The files of which a client has a row or a wait, and what becomes of them as a table of locks changes.
 use Rattle.st_lemmas.proofs.Words
-use Words.{◌≡◌, ◌≢◌, ◌≤◌, ◌+◌, ◌⊎◌, ℕ, ◌==◌, ◌&&◌, ◌||◌, Bool, true, false, not, List, [], ◌∷◌, ◌++◌, length, filter, find, map, Option, Some, None, is_some, nat_lt, refl, sym, ap, ◌∙◌, subst, inl, inr, arith, eqb-true, eq-eqb, ltb-true, length-map}
+use Words.{◌≡◌, ◌≢◌, ◌≤◌, ◌+◌, ◌⊎◌, ℕ, ◌==◌, ◌&&◌, ◌||◌, Bool, true, false, not, List, [], ◌∷◌, length, filter, map, Option, Some, None, is_some, nat_lt, refl, sym, ap, ◌∙◌, subst, inl, inr, arith, eqb-true, eq-eqb, ltb-true, length-map}
 use Words.{ClientId, GrantNo, Life, LockRow, Mode, Waiter}
 use Words.Lists.{Has}
 use Words.Locks as locks

@@ -1,30 +1,24 @@
 -- In each event of the third form no client gets rows and waits of more files at a server than may be.
 use Rattle.st_lemmas.proofs.Words
-use Words.{◌≡◌, ◌≢◌, ◌≤◌, ◌<◌, ◌+◌, ◌⊎◌, ℕ, Bool, true, false, List, [], ◌∷◌, length, map, option_map, Option, Some, None, Ok, refl, sym, ap, ◌∙◌, subst, inl, inr, arith, if◌then◌else◌, leb-false, leb-true, nat_le}
-use Words.{Body, ClientId, GrantNo, Message, Mode, ServerId, ServerInput, Session, Stamp}
+use Words.{◌≡◌, ◌≢◌, ◌≤◌, ◌<◌, ◌+◌, ◌⊎◌, ℕ, Bool, true, false, List, [], length, Some, Ok, refl, sym, ap, ◌∙◌, subst, inl, inr, arith, if◌then◌else◌, leb-false, leb-true, nat_le}
+use Words.{ClientId, GrantNo, Message, Mode, ServerId, ServerInput, Session, Stamp}
 use Words.bodies
 use Words.nodes
-use Words.Client as plain
 use Words.Events as ev
 use Words.Grace as grace
 use Words.Keys.{server_node}
 use Words.Lists.{Has}
-use Words.Locks as locks
-use Words.Locks.{Locks}
 use Words.Lookups.{some_is}
-use Words.Numbers.{numbered_own, numbered_other, numbered_below}
 use Words.Server as server
 use Words.Server.{ServerNode, sender}
 use Words.Sessions.{is_live, session_of}
 use Words.Tables.{same_or_not}
-use Words.World.{World, WorldClient, clock_of, node_of, numbered, site_of}
+use Words.World.{World, clock_of, node_of, numbered}
 use Rattle.st_rules.specs.declared.input.ServerInput.TheVariants as inputs
 use Rattle.st_third.specs.declared.event.ThirdEvent.{ThirdEvent}
-use Rattle.st_third.specs.declared.limits.Limits.{Limits}
 use Rattle.st_third.specs.Events as every
 use Rattle.st_third.specs.Events.{ThirdWorldTurn}
-use Rattle.st_third.specs.Limits.{is_client_node, limited_node, limited_site, most_clients}
-use Rattle.st_third.specs.State.{ClientBeside}
+use Rattle.st_third.specs.Limits.{is_client_node, limited_node, most_clients}
 use Rattle.st_third.specs.World.{ThirdWorld}
 use Rattle.st_laws_third.proofs.DemandsSeen.{People, within_most}
 use Rattle.st_laws_third.proofs.EventWalk.{Client_step, EventLawOf, ServerTakes, Server_step, walk_by_event}
@@ -40,7 +34,7 @@ use Rattle.st_laws_limits.proofs.ClientMail.{MailFits}
 use Rattle.st_laws_limits.proofs.Files.{ByRow, ByWait, FilesFew, HasFile, fewer_than}
 use Rattle.st_laws_limits.proofs.InOrder.{all_as}
 use Rattle.st_laws_limits.proofs.ServerFiles.{IsTimely, server_files}
-use Rattle.st_laws_limits.proofs.Welcomed.{AllInOrder, IsAsked, IsOff}
+use Rattle.st_laws_limits.proofs.Welcomed.{AllInOrder, IsOff}
 
 -- at each server, with this limit
 abbrev pub AllFiles : ℕ → World → Type 0

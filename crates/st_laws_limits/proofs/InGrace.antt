@@ -7,10 +7,9 @@ use Words.notes
 use Words.outputs
 use Words.Grace as grace
 use Words.Lists.{Has}
-use Words.Locks as locks
 use Words.Lookups.{some_is}
 use Words.Server as sv
-use Words.Server.{ServerState, ServerTurn, life_in, sender, turn}
+use Words.Server.{ServerState, ServerTurn, life_in, sender}
 use Words.Sessions as sessions
 use Words.Sessions.{Sessions, session_of}
 use Words.Tables.{found_at, has_append, same_or_not}

@@ -1,17 +1,17 @@
 -- Lives and epochs stay in order between clients and servers in each event of the third form.
 use Rattle.st_lemmas.proofs.Words
-use Words.{◌≡◌, ◌≢◌, ◌≤◌, ◌<◌, ◌+◌, ◌⊎◌, ℕ, zero, suc, pred, Bool, true, false, List, [], ◌∷◌, map, find, Option, Some, None, length, unwrap_or, slice_get, refl, sym, ap, ◌∙◌, subst, inl, inr, arith, nat_lt, le-ltb, ltb-false}
+use Words.{◌≡◌, ◌≢◌, ◌≤◌, ◌+◌, ◌⊎◌, ℕ, zero, suc, pred, false, List, [], ◌∷◌, map, find, Option, Some, None, length, unwrap_or, slice_get, refl, sym, ap, ◌∙◌, subst, inl, inr, arith, le-ltb, ltb-false}
 use Words.{ClientId, Message, ServerId, Session, Stamp}
 use Words.nodes
 use Words.Client as plain
-use Words.ClientState.{Association, ClientSession}
+use Words.ClientState.{Association}
 use Words.Events as ev
 use Words.Grace as grace
 use Words.Grace.{Grace}
 use Words.Keys.{server_node}
 use Words.Lists.{Has}
 use Words.Lookups.{some_is}
-use Words.Numbers.{numbered_below, set_length}
+use Words.Numbers.{set_length}
 use Words.Server as server
 use Words.Server.{ServerNode}
 use Words.Sessions as sessions
@@ -28,13 +28,13 @@ use Rattle.st_third.specs.World.{ThirdWorld}
 use Rattle.st_laws_third.proofs.DemandsSeen.{People}
 use Rattle.st_laws_third.proofs.EventWalk.{EventLawOf, walk_by_event}
 use Rattle.st_laws_third.proofs.Sound.{Sound}
-use Rattle.st_laws_leaving.specs.Quiet.{Between, IsSent, IsTo, Standing}
+use Rattle.st_laws_leaving.specs.Quiet.{Between, IsSent, Standing}
 use Rattle.st_laws_leaving.proofs.Betweens.{standing_as}
 use Rattle.st_laws_leaving.proofs.Posts.{lost_sent}
 use Rattle.st_laws_leaving.proofs.Standing.{twice_other, twice_own}
 use Rattle.st_laws_limits.proofs.ServesInOrder.{serves_all_in_order}
 use Rattle.st_laws_limits.proofs.TakesInOrder.{takes_in_order}
-use Rattle.st_laws_limits.proofs.Welcomed.{AllInOrder, IsAsked, IsOff, IsWelcome, LivesInOrder, clock_same, in_order_as, off_same}
+use Rattle.st_laws_limits.proofs.Welcomed.{AllInOrder, IsAsked, IsOff, IsWelcome, LivesInOrder, in_order_as, off_same}
 
 -- In a world with the same nodes and clocks, and without a new message.
 pub all_as : (w v : World) → v.clients ≡ w.clients → v.servers ≡ w.servers → v.clocks ≡ w.clocks → ((m : Message) → IsSent v m → IsSent w m) → AllInOrder w →

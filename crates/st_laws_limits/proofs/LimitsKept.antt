@@ -1,24 +1,23 @@
 -- In every run of the third form limits are kept.
 use Rattle.st_lemmas.proofs.Words
-use Words.{◌≡◌, ℕ, zero, suc, Bool, true, List, [], ◌∷◌, ◌++◌, length, map, Option, Some, None, refl, sym, ap, ◌∙◌, subst, arith, le-leb, list_all, slice_get}
+use Words.{◌≡◌, ℕ, true, List, [], ◌∷◌, ◌++◌, length, map, Option, Some, None, refl, sym, ap, ◌∙◌, subst, arith, le-leb, list_all}
 use Words.{ClientId, Config, Message, ServerId, Session}
 use Words.ClientState.{Association}
 use Words.Lists.{Has}
 use Words.Locks as locks
-use Words.Lookups.{some_is}
 use Words.Numbers.{numbered_has}
 use Words.Server as server
 use Words.Server.{ServerNode}
 use Words.Tables.{all_pass, and_both, each_passes, has_map}
 use Words.Sessions.{session_of}
 use Words.Truth.{none_not_some}
-use Words.World.{World, WorldClient, all_clients, all_servers, fresh_world, node_at_start, node_of, numbered, site_of}
+use Words.World.{WorldClient, all_clients, all_servers, fresh_world, node_at_start, node_of, numbered, site_of}
 use Rattle.st_rules.specs.Extents.{numbers}
 use Rattle.st_third.specs.declared.event.ThirdEvent.{ThirdEvent}
 use Rattle.st_third.specs.declared.limits.Limits.{Limits}
 use Rattle.st_third.specs.Events as every
-use Rattle.st_third.specs.Events.{ThirdWorldTurn, third_counted}
-use Rattle.st_third.specs.Limits.{IsHead, limited_node, most_clients, with_limits}
+use Rattle.st_third.specs.Events.{third_counted}
+use Rattle.st_third.specs.Limits.{limited_node, most_clients, with_limits}
 use Rattle.st_third.specs.Promises.{LimitsAreKept, ThirdPromise, Throughout, are_few_at, are_few_files, associations_at, keeps_limits}
 use Rattle.st_third.specs.Steps as steps
 use Rattle.st_third.specs.Steps.{ThirdStep, ThirdTraced}
@@ -31,10 +30,10 @@ use Rattle.st_laws_third.proofs.FewLocks.{every_client_has_few_locks}
 use Rattle.st_laws_third.proofs.FewPages.{every_client_has_few_clean_pages, every_client_has_few_dirty_pages}
 use Rattle.st_laws_third.proofs.FewRows.{AllRows, Rows, WordRows, rows_begun, rows_law}
 use Rattle.st_laws_third.proofs.Moves.{Changes, Moved, Rests, elsewhere, moves}
-use Rattle.st_laws_third.proofs.Sound.{Sound, numbered_map, sound_after, sound_first}
+use Rattle.st_laws_third.proofs.Sound.{Sound, sound_first}
 use Rattle.st_laws_leaving.specs.Quiet.{IsSent, Standing}
 use Rattle.st_laws_leaving.proofs.Betweens.{standing_as}
-use Rattle.st_laws_leaving.proofs.StandingRuns.{Stand, standing_first, stands_throughout}
+use Rattle.st_laws_leaving.proofs.StandingRuns.{standing_first, stands_throughout}
 use Rattle.st_laws_limits.specs.Kept.{EveryRunKeepsLimits, EveryServerHasFewFiles, FilesAreFew, has_few_everywhere}
 use Rattle.st_laws_limits.specs.Pending.{PendingAreFew, has_few_pending}
 use Rattle.st_laws_limits.proofs.ClientMail.{MailFits, mail_after}

@@ -1,6 +1,6 @@
 -- Each rule of a client of the third form leaves no more pending operations and leaves than it finds, but for one ask.
 use Rattle.st_lemmas.proofs.Words
-use Words.{◌≡◌, ◌≤◌, ◌+◌, ◌⊎◌, ℕ, ◌==◌, ◌&&◌, Bool, true, false, not, List, [], ◌∷◌, ◌++◌, length, filter, find, map, Option, Some, None, refl, sym, ap, ◌∙◌, subst, inl, inr, arith, if◌then◌else◌, length-map}
+use Words.{◌≡◌, ◌≤◌, ℕ, ◌==◌, ◌&&◌, Bool, true, false, not, List, [], ◌∷◌, length, find, Option, Some, None, refl, ap, arith, if◌then◌else◌, length-map}
 use Words.{AppAnswer, Ask, Asked, Body, Epoch, GrantNo, Header, HeldLock, Mode, NameReply, Operation, PageNo, Request, Stamp, Why}
 use Words.answers
 use Words.asks
@@ -11,7 +11,6 @@ use Words.Client as cl
 use Words.ClientLease as lease
 use Words.ClientLocks as locks
 use Words.ClientPages as pages
-use Words.ClientPasses as passes
 use Words.ClientReplies as replies
 use Words.ClientState as cs
 use Words.ClientState.{ClientSession, Turn}

@@ -1,7 +1,7 @@
 -- The ends of commands and the passes of a client of the third form leave no more pending operations and leaves.
 use Rattle.st_lemmas.proofs.Words
-use Words.{◌≡◌, ◌≤◌, ◌<◌, ◌+◌, ◌⊎◌, ℕ, ◌==◌, ◌&&◌, Bool, true, false, not, List, [], ◌∷◌, ◌++◌, length, filter, find, map, Option, Some, None, refl, sym, ap, ◌∙◌, subst, inl, inr, arith, if◌then◌else◌, length-map, eqb-true}
-use Words.{Ask, Body, CleanPage, DemandedFile, DirtyPage, FileId, HeldLock, IoKind, KnownExtent, MappedBlock, Mode, Note, Operation, PageCommand, PageNo, Release, Request, Stamp, Tag}
+use Words.{◌≡◌, ◌≤◌, ◌<◌, ◌+◌, ◌⊎◌, ℕ, ◌&&◌, Bool, true, false, not, List, [], ◌∷◌, ◌++◌, length, filter, find, map, Option, Some, None, refl, sym, ap, ◌∙◌, subst, inl, inr, arith, if◌then◌else◌, length-map, eqb-true}
+use Words.{Ask, Body, DemandedFile, DirtyPage, FileId, HeldLock, IoKind, KnownExtent, MappedBlock, Note, Operation, PageCommand, PageNo, Release, Request, Stamp, Tag}
 use Words.answers
 use Words.asks
 use Words.bodies

@@ -1,6 +1,6 @@
 -- In every run of the third form, of no client more operations and leaves are pending than may be.
 use Rattle.st_lemmas.proofs.Words
-use Words.{◌≡◌, ◌≤◌, ◌+◌, ◌==◌, ◌⊎◌, ◌≢◌, ℕ, Bool, true, List, [], length, map, option_map, Option, Some, None, refl, sym, ap, ◌∙◌, subst, inl, inr, arith, le-leb, length-map}
+use Words.{◌≡◌, ◌≤◌, ◌⊎◌, ◌≢◌, ℕ, true, List, [], length, option_map, Option, Some, None, refl, sym, ap, ◌∙◌, inl, inr, arith, le-leb}
 use Words.{ClientId, Config, Stamp}
 use Words.nodes
 use Words.Client as plain
@@ -18,7 +18,7 @@ use Rattle.st_third.specs.declared.limits.Limits.{Limits}
 use Rattle.st_third.specs.Client.{client_step}
 use Rattle.st_third.specs.Events as every
 use Rattle.st_third.specs.Events.{third_counted}
-use Rattle.st_third.specs.Limits.{IsHead, limited_client, limited_site, most_clients, with_limits}
+use Rattle.st_third.specs.Limits.{limited_client, limited_site, most_clients, with_limits}
 use Rattle.st_third.specs.Promises.{leaves_at, operations_at, pending}
 use Rattle.st_third.specs.State.{ClientBeside, ThirdClient, fresh_beside_client}
 use Rattle.st_third.specs.Steps as steps
@@ -29,7 +29,7 @@ use Rattle.st_laws_third.proofs.DemandsSeen.{people_first, within_most}
 use Rattle.st_laws_third.proofs.Moves.{Becomes, Changes, Crashed, Moved, Rests, Started, Stepped, elsewhere, moves}
 use Rattle.st_laws_third.proofs.Sound.{Sound, numbered_map, sound_after, sound_first}
 use Rattle.st_laws_leaving.specs.Quiet.{Standing}
-use Rattle.st_laws_leaving.proofs.StandingRuns.{Stand, standing_first, stands_throughout}
+use Rattle.st_laws_leaving.proofs.StandingRuns.{standing_first, stands_throughout}
 use Rattle.st_laws_limits.specs.Pending.{EveryClientHasFewPending, PendingAreFew, has_few_pending}
 use Rattle.st_laws_limits.proofs.PendingSteps.{steps_wait, waiting}
 

@@ -1,17 +1,16 @@
 -- A step of a client of the third form leaves no more pending operations and leaves than it finds, and than may be.
 use Rattle.st_lemmas.proofs.Words
-use Words.{◌≡◌, ◌≤◌, ◌+◌, ◌==◌, ℕ, Bool, true, false, List, [], ◌∷◌, ◌++◌, length, Option, Some, None, refl, sym, ap, ◌∙◌, inl, inr, arith, if◌then◌else◌, leb-false, eqb-true, ne_eqb, append_assoc, length-append, subst}
+use Words.{◌≡◌, ◌≤◌, ◌+◌, ◌==◌, ℕ, Bool, true, false, List, [], ◌∷◌, ◌++◌, length, Option, Some, None, refl, sym, ◌∙◌, inl, inr, arith, if◌then◌else◌, leb-false, eqb-true, ne_eqb, append_assoc, length-append, subst}
 use Words.{Ask, ClientInput, Operation, ServerId, Stamp}
 use Words.answers
 use Words.asks
 use Words.Client as cl
 use Words.ClientPages as pages
 use Words.ClientState as cs
-use Words.ClientState.{Association, Turn}
+use Words.ClientState.{Association}
 use Words.Lengths.{nothing_after}
 use Words.Lists.{Has}
 use Rattle.st_rules.specs.declared.client.ClientInput.TheVariants as inputs
-use Rattle.st_third.specs.declared.beside.Leave.{Leave}
 use Rattle.st_third.specs.declared.event.ThirdInput.{ThirdInput}
 use Rattle.st_third.specs.declared.event.ThirdInput.TheVariants as third
 use Rattle.st_third.specs.declared.limits.Limits.{Limits}
@@ -27,7 +26,7 @@ use Rattle.st_laws_third.proofs.Facts.{changes_third}
 use Rattle.st_laws_third.proofs.Leaving as lost
 use Rattle.st_laws_leaving.specs.Going.{Apart}
 use Rattle.st_laws_leaving.proofs.ClientSteps.{apart_on}
-use Rattle.st_laws_limits.proofs.Pending.{Fewer, both, loses, receives, same}
+use Rattle.st_laws_limits.proofs.Pending.{Fewer, loses, receives}
 use Rattle.st_laws_limits.proofs.PendingPasses.{finishes, passes_all}
 
 -- how many operations and leaves are pending

@@ -1,12 +1,10 @@
 -- In a step of a server no client gets more files than may be, if a reassertion in grace is of few locks, and of no later life than that of a living session.
 use Rattle.st_lemmas.proofs.Words
-use Words.{◌≡◌, ◌≢◌, ◌≤◌, ◌<◌, ◌+◌, ◌⊎◌, ℕ, ◌==◌, ◌&&◌, ◌||◌, Bool, true, false, not, List, [], ◌∷◌, length, Option, Some, None, Ok, refl, sym, ap, ◌∙◌, subst, inl, inr, arith, eq-eqb, eqb-true, lt-ltb, nat_lt}
+use Words.{◌≡◌, ◌≢◌, ◌≤◌, ◌+◌, ◌⊎◌, ℕ, ◌==◌, ◌&&◌, ◌||◌, Bool, true, false, not, List, [], ◌∷◌, length, Option, Some, None, refl, sym, ap, ◌∙◌, subst, inl, inr, eq-eqb, lt-ltb, nat_lt}
 use Words.{Body, ClientId, GrantNo, Header, LockRow, Message, Mode, RowDemand, ServerInput, Session, Stamp}
 use Words.bodies
 use Words.modes
 use Words.Grace as grace
-use Words.Keys.{client}
-use Words.Lists.{Has}
 use Words.Locks as locks
 use Words.Locks.{Locks}
 use Words.Server as sv

@@ -1,6 +1,6 @@
 -- A server takes an input: lives and epochs stay in order between clients and servers.
 use Rattle.st_lemmas.proofs.Words
-use Words.{◌≡◌, ◌≢◌, ◌≤◌, ◌<◌, ◌+◌, ◌⊎◌, ℕ, Bool, true, false, List, Some, Ok, length, refl, sym, ap, ◌∙◌, subst, inl, inr, arith}
+use Words.{◌≡◌, ◌≢◌, ◌≤◌, ◌<◌, ◌+◌, ◌⊎◌, ℕ, Bool, true, false, List, Some, Ok, length, refl, sym, ap, ◌∙◌, inl, inr, arith}
 use Words.{ClientId, Epoch, GrantNo, Message, Mode, ServerId, ServerInput, Session, Stamp}
 use Words.bodies
 use Words.nodes
@@ -8,7 +8,6 @@ use Words.outputs
 use Words.ClientState.{Association, ClientSession}
 use Words.Events as ev
 use Words.Grace as grace
-use Words.Keys.{server_node}
 use Words.Lists.{Has}
 use Words.Server as server
 use Words.Server.{ServerNode}
@@ -23,7 +22,7 @@ use Rattle.st_laws_third.proofs.DemandsSeen.{People}
 use Rattle.st_laws_third.proofs.EventWalk.{ServerTakes, Server_step}
 use Rattle.st_laws_third.proofs.Moves.{took_server}
 use Rattle.st_laws_third.proofs.Sound.{Sound}
-use Rattle.st_laws_leaving.specs.Quiet.{Between, IsSent, IsTo, Standing}
+use Rattle.st_laws_leaving.specs.Quiet.{Between, IsSent, Standing}
 use Rattle.st_laws_leaving.specs.Serving.{ServesOn}
 use Rattle.st_laws_leaving.proofs.ServedClients.{servers_serve_on}
 use Rattle.st_laws_leaving.proofs.ServesStanding as serving

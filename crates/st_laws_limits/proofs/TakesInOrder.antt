@@ -1,11 +1,11 @@
 -- A client takes an input: lives and epochs stay in order between clients and servers.
 use Rattle.st_lemmas.proofs.Words
 use Words.{◌≡◌, ◌≢◌, ◌≤◌, ◌<◌, ◌⊎◌, ℕ, Bool, true, false, Some, length, pred, refl, sym, ap, ◌∙◌, subst, inl, inr, arith}
-use Words.{ClientId, Life, Message, ServerId, Session}
+use Words.{ClientId, Message, ServerId, Session}
 use Words.bodies
 use Words.nodes
 use Words.Client as plain
-use Words.ClientState.{Association, ClientSession, ClientState}
+use Words.ClientState.{Association, ClientState}
 use Words.Events as ev
 use Words.Grace as grace
 use Words.Keys.{server_node}

@@ -1,8 +1,8 @@
 -- Between a client and a server: a message of an earlier life than that of a later welcome, message or session has no later epoch than the welcome; and if it
 -- has the server's epoch, the server's grace is over.
 use Rattle.st_lemmas.proofs.Words
-use Words.{◌≡◌, ◌≢◌, ◌≤◌, ◌<◌, ◌+◌, ◌⊎◌, ℕ, Bool, true, false, List, Option, Some, None, length, unwrap_or, refl, sym, ap, ◌∙◌, subst, inl, inr, arith}
-use Words.{ClientId, Message, ServerId, Session, Stamp}
+use Words.{◌≡◌, ◌≤◌, ◌<◌, ◌+◌, ℕ, false, Some, length, unwrap_or, ap, ◌∙◌}
+use Words.{ClientId, Message, ServerId, Session}
 use Words.bodies
 use Words.nodes
 use Words.ClientState.{Association, ClientSession}
@@ -11,8 +11,6 @@ use Words.Keys.{server_node}
 use Words.Lists.{Has}
 use Words.Server.{ServerNode}
 use Words.Sessions.{session_of}
-use Words.Tables.{same_or_not}
-use Words.Truth.{none_not_some}
 use Words.World.{World, WorldClient, clock_of, numbered, stamp}
 use Rattle.st_laws_leaving.specs.Quiet.{IsSent, IsTo}
 

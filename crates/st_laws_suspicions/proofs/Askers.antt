@@ -1,7 +1,7 @@
 -- Whoever has a row or a wait at a server has asked for it, in the life of the row or the wait, by a message that isn't a greeting.
 use Rattle.st_lemmas.proofs.Words
-use Words.{◌≡◌, ◌⊎◌, ℕ, Bool, true, false, [], ◌∷◌, refl, sym, ap, ◌∙◌, subst, inl, inr, cond, map, Option, Some, None, not}
-use Words.{ClientId, GrantNo, Life, Stamp, Mode, Header, Body, Message, ServerInput, LockRow, Waiter}
+use Words.{◌≡◌, ◌⊎◌, ℕ, Bool, true, false, [], ◌∷◌, refl, sym, ap, ◌∙◌, subst, inl, inr, map, Option, Some, None, not}
+use Words.{ClientId, Life, Stamp, Mode, Header, Body, Message, ServerInput, LockRow, Waiter}
 use Words.modes
 use Words.bodies as bd
 use Words.serving.{Control}

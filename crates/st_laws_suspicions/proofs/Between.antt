@@ -1,11 +1,10 @@
 -- What holds between a client of the third form and a server, while both run and the client's life at the server goes on. Whoever asked the server has a
 -- session; and what a session knows of epochs and of grant numbers is what the server has said.
 use Rattle.st_lemmas.proofs.Words
-use Words.{◌≡◌, ◌≢◌, ◌⊎◌, ◌+◌, ◌≤◌, ℕ, Bool, true, false, List, [], ◌∷◌, ◌++◌, Option, Some, None, refl, sym, ap, ◌∙◌, subst, inl, inr, arith, map}
-use Words.{eqb-true, ClientId, Config, Epoch, GrantNo, HeldLock, Life, LockRow, Message, NodeId, Output, SentMessage, ServerId, ServerInput, Stamp, Waiter}
+use Words.{◌≡◌, ◌≢◌, ◌⊎◌, ◌+◌, ◌≤◌, ℕ, true, false, List, [], ◌∷◌, Option, Some, None, refl, sym, ap, ◌∙◌, subst, inl, inr, arith}
+use Words.{eqb-true, ClientId, Config, Epoch, GrantNo, HeldLock, Life, Message, NodeId, SentMessage, ServerId, ServerInput, Stamp}
 use Words.bodies as bd
 use Words.nodes
-use Words.notes
 use Words.outputs
 use Words.serving.{Control}
 use Words.ClientState.{Association, ClientSession, ClientState}
@@ -15,7 +14,7 @@ use Words.Lookups.{some_is}
 use Words.Server.{ServerNode, ServerState, ServerTurn, life_in, sender}
 use Words.Tables.{has_map_in, same_or_not}
 use Words.Truth.{not_both}
-use Words.World.{World, WorldClient, clock_of, node_of, numbered, site_of}
+use Words.World.{WorldClient, clock_of, node_of, numbered, site_of}
 use Rattle.st_laws_leases.specs.Dates.Dates.{message_in, messages}
 use Rattle.st_laws_steps.specs.Lives.Lives.{Pairwise}
 use Rattle.st_rules.specs.declared.observation.Observation.TheVariants as plain_seen

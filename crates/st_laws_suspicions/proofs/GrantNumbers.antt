@@ -1,23 +1,20 @@
 -- The grant numbers of a server that isn't in grace. Each message that it sends has its number and its epoch. A number that it has told a client, in a grant or
 -- a demand, is one that it has given, and the client's row of the file has no lower one.
 use Rattle.st_lemmas.proofs.Words
-use Words.{◌≡◌, ◌≢◌, ℕ, ◌+◌, ◌≤◌, ◌<◌, ◌⊎◌, Bool, true, false, ◌&&◌, List, [], ◌∷◌, ◌++◌, ◌==◌, refl, sym, ap, ◌∙◌, subst, inl, inr, arith, cond, map, Option, Some, None, not}
+use Words.{◌≡◌, ℕ, ◌+◌, ◌≤◌, ◌<◌, ◌⊎◌, Bool, true, false, List, [], ◌∷◌, ◌++◌, ◌==◌, refl, sym, ap, ◌∙◌, subst, inl, inr, arith, map, Option, Some, None, not}
 use Words.{eq-eqb, eqb-true, ClientId, GrantNo, Life, ServerId, Stamp, Mode, Header, Body, Message, Output, Note, ServerInput, LockRow, Session, SessionState, Waiter}
 use Words.modes
 use Words.notes
 use Words.outputs
 use Words.states
-use Words.verdicts
-use Words.why
 use Words.bodies as bd
-use Words.Authority as authority
 use Words.Grace as grace
-use Words.Keys.{client, server_node}
+use Words.Keys.{server_node}
 use Words.Lists.{Has}
 use Words.Locks as locks
-use Words.Locks.{Locks, first_after, is_row_of, next_grant, row_of}
+use Words.Locks.{Locks, first_after, is_row_of, next_grant}
 use Words.Server as sv
-use Words.Server.{ServerState, ServerTurn, life_in, note, sender, suspect_client}
+use Words.Server.{ServerState, ServerTurn, life_in, sender}
 use Words.ServerInvariants.{are_once, same_row}
 use Words.Sessions as sessions
 use Words.Sessions.{Sessions}

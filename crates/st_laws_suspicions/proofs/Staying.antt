@@ -1,17 +1,16 @@
 -- Clients that stay aren't suspected, over whole runs of the third form: each demand that they get finds them open.
 use Rattle.st_lemmas.proofs.Words
-use Words.{◌≡◌, ◌≢◌, ◌⊎◌, ◌+◌, ◌*◌, ◌≤◌, ◌<◌, ℕ, zero, suc, Bool, true, false, List, [], ◌∷◌, ◌++◌, ◌==◌, Option, Some, None, refl, sym, ap, ◌∙◌, subst, inl, inr}
-use Words.{arith, eqb-true, if◌then◌else◌, map, option_map, slice_get, ClientId, Config, GrantNo, HeldLock, Life, LockRow, Message, Mode, NodeId, SentMessage, ServerId, Stamp}
-use Words.{Session, Waiter, WorldRefusal}
+use Words.{◌≡◌, ◌⊎◌, ◌+◌, ◌≤◌, ℕ, zero, suc, Bool, true, false, List, [], ◌∷◌, ◌==◌, Option, Some, None, refl, sym, ap, ◌∙◌, subst, inl, inr}
+use Words.{arith, eqb-true, if◌then◌else◌, map, option_map, ClientId, Config, HeldLock, Life, LockRow, Message, Mode, NodeId, SentMessage, ServerId, Stamp}
+use Words.{Waiter, WorldRefusal}
 use Words.bodies as bd
 use Words.events
 use Words.nodes
-use Words.states
 use Words.Authority.{may_ack}
 use Words.Client as plain
 use Words.ClientLocks as locks
-use Words.ClientState.{Association, ClientSession, ClientState}
-use Words.Keys.{client, server_node}
+use Words.ClientState.{Association, ClientSession}
+use Words.Keys.{server_node}
 use Words.Lists.{Has}
 use Words.Lookups.{some_is}
 use Words.Members.{has_left}

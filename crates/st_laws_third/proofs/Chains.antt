@@ -20,7 +20,7 @@ use Rattle.st_third.specs.declared.beside.Leave.{Leave}
 use Rattle.st_third.specs.declared.output.ThirdOutput.TheVariants as says
 use Rattle.st_third.specs.State as third
 use Rattle.st_third.specs.State.{ThirdTurn, plainly}
-use Rattle.st_laws_third.specs.Changes.{ThirdChange, ThirdChanges, ArePending, Bounds, Continues, GoesOnBy, Heard, IsRun, SameEpoch, SendsRight, Still, Then, WasHeld}
+use Rattle.st_laws_third.specs.Changes.{ThirdChange, ThirdChanges, ArePending, Bounds, Continues, GoesOnBy, Heard, IsRun, SameEpoch, Still, Then, WasHeld}
 use Rattle.st_laws_third.specs.Changes.{Plainly, Says, Leaves, bounds, with_plain}
 
 pub one : {got : Heard} {now : Stamp} {t u : ThirdTurn} → ThirdChange got now t u → ThirdChanges got now t u

@@ -9,7 +9,7 @@ use Words.Client as plain
 use Words.ClientPages as pages
 use Words.ClientPasses as passes
 use Words.ClientReplies as replies
-use Words.ClientState.{Association, ClientSession, Turn, is_at, is_of, keep, send, with_operations}
+use Words.ClientState.{Association, is_at, is_of, keep, send, with_operations}
 use Words.Lists.{Has}
 use Rattle.st_rules.specs.declared.client.ClientInput.TheVariants as inputs
 use Rattle.st_laws_steps.specs.Client.Losses.{Fit, is_ended}

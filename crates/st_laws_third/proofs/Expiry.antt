@@ -1,7 +1,7 @@
 -- In every run of the third form, a lease that is over leaves nothing at its client.
 use Rattle.st_lemmas.proofs.Words
-use Words.{◌≡◌, ◌+◌, ℕ, ◌==◌, Bool, true, false, ◌&&◌, ◌||◌, not, List, [], ◌∷◌, Option, Some, None, find, option_map, refl, sym, ap, ◌∙◌, subst, inl, inr, if◌then◌else◌}
-use Words.{eqb-true, eq-eqb, list_all, nat_le, ClientId, Config, IssuedCommand, Life, Message, NodeId, SentMessage, ServerId, Stamp, WorldRefusal}
+use Words.{◌≡◌, ◌+◌, ℕ, ◌==◌, Bool, true, false, ◌||◌, not, List, [], ◌∷◌, Option, Some, None, find, option_map, refl, sym, ap, ◌∙◌, subst, if◌then◌else◌}
+use Words.{eqb-true, eq-eqb, ClientId, Config, IssuedCommand, Life, NodeId, SentMessage, ServerId, Stamp, WorldRefusal}
 use Words.events
 use Words.nodes
 use Words.refusals
@@ -18,7 +18,7 @@ use Words.Numbers.{numbered_own}
 use Words.Safety as safety
 use Words.Safety.{has_reached, is_emptied}
 use Words.Tables.{and_both, and_true}
-use Words.World.{World, WorldClient, all_clients, all_servers, clock_of, is_running, issued_of, message_of, numbered, present_end, same_node, site_of, site_runs}
+use Words.World.{World, WorldClient, clock_of, is_running, issued_of, message_of, numbered, present_end, same_node, site_of, site_runs}
 use Rattle.std.specs.Option.{option_or}
 use Rattle.st_laws_steps.specs.Client.Losses.{is_ended}
 use Rattle.st_laws_steps.specs.Lives.Lives.{Pairwise}

@@ -1,6 +1,6 @@
 -- In every run of the third form, no client has more locks of a server than it may.
 use Rattle.st_lemmas.proofs.Words
-use Words.{◌≡◌, ◌≤◌, ◌+◌, ℕ, Bool, true, false, ◌||◌, not, List, [], ◌∷◌, length, find, filter, Option, Some, None, is_some, nat_lt, refl, sym, ap, ◌∙◌, subst, arith, if◌then◌else◌, le-leb, ltb-true}
+use Words.{◌≡◌, ◌≤◌, ℕ, Bool, true, false, ◌||◌, not, List, [], ◌∷◌, length, find, Option, Some, None, is_some, nat_lt, refl, sym, ap, ◌∙◌, subst, arith, if◌then◌else◌, le-leb, ltb-true}
 use Words.{ClientId, Config, DemandedFile, GrantNo, HeldLock, KnownExtent, Mode, Stamp}
 use Words.modes
 use Words.Client as plain
@@ -26,7 +26,7 @@ use Rattle.st_third.specs.declared.output.ThirdOutput.{ThirdOutput}
 use Rattle.st_third.specs.Events as every
 use Rattle.st_third.specs.Events.{third_counted}
 use Rattle.st_third.specs.Limits.{limited_association}
-use Rattle.st_third.specs.State.{Beside, ClientBeside, ThirdTurn, fresh_beside, session}
+use Rattle.st_third.specs.State.{Beside, ThirdTurn, session}
 use Rattle.st_third.specs.Promises.{associations_at}
 use Rattle.st_third.specs.Steps as steps
 use Rattle.st_third.specs.Steps.{ThirdStep, ThirdTraced}

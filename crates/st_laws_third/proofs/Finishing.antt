@@ -1,7 +1,7 @@
 -- Asks of applications, and ends of disk commands, at a client of the third form, are changes.
 use Rattle.st_lemmas.proofs.Words
 use Words.{◌≡◌, ℕ, ◌==◌, Bool, true, false, List, Option, Some, None, refl, sym, ap, ◌∙◌, subst, if◌then◌else◌, eq-eqb, eqb-true, option_map, unwrap_or}
-use Words.{Ask, DirtyPage, IoKind, PageCommand, Stamp, Tag}
+use Words.{Ask, IoKind, PageCommand, Stamp, Tag}
 use Words.answers
 use Words.ends
 use Words.io

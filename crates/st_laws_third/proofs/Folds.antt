@@ -22,7 +22,7 @@ use Rattle.st_third.specs.Client as client
 use Rattle.st_third.specs.Leave as leaving
 use Rattle.st_third.specs.Limits.{limited_association}
 use Rattle.st_third.specs.Replies.{receive, receive_at}
-use Rattle.st_third.specs.State.{Beside, ThirdClient, ThirdClientTurn, ThirdTurn, all_said, at_each, at_these, enter, fresh_beside, leave, only_at, plain_output, plainly, session, third_turn}
+use Rattle.st_third.specs.State.{Beside, ThirdClient, ThirdClientTurn, ThirdTurn, all_said, at_each, at_these, enter, fresh_beside, leave, only_at, plain_output, plainly, third_turn}
 use Rattle.st_laws_third.specs.Changes.{Heard, ThirdChange, ThirdChanges, ThirdFinishes, ThirdLeaves, ThirdLoses, ThirdPasses, HasLeft, IsLost, Lasts, Stays, Still, Then, with_plain}
 use Rattle.st_laws_third.proofs.Chains.{left_has, right_has}
 use Rattle.st_laws_third.proofs.Facts.{WordRight, change_says, change_third}

@@ -1,7 +1,7 @@
 -- What lives on of a client's sessions in a step, and which messages the step sends.
 use Rattle.st_lemmas.proofs.Words
-use Words.{◌≡◌, ◌≤◌, ◌⊎◌, ◌==◌, ℕ, suc, Bool, true, false, List, [], ◌∷◌, ◌++◌, Option, Some, None, length, not, refl, sym, ap, ◌∙◌, subst, inl, inr, arith, append_assoc}
-use Words.{eqb-true, if◌then◌else◌, map, AppAnswer, Body, ClientId, ClientInput, Config, DemandedFile, GrantNo, Header, HeldLock, Life, Message, Mode, Output, ServerId, Stamp}
+use Words.{◌≡◌, ◌⊎◌, ◌==◌, ℕ, suc, Bool, true, false, List, [], ◌∷◌, ◌++◌, Option, Some, None, length, not, refl, sym, ap, ◌∙◌, subst, inl, inr, arith, append_assoc}
+use Words.{eqb-true, if◌then◌else◌, map, AppAnswer, Body, ClientId, ClientInput, Config, DemandedFile, GrantNo, Header, HeldLock, Life, Message, Mode, ServerId, Stamp}
 use Words.answers
 use Words.bodies
 use Words.modes
@@ -10,7 +10,7 @@ use Words.outputs
 use Words.Client as plain
 use Words.ClientLocks as locks
 use Words.ClientPasses as passes
-use Words.ClientState.{Association, ClientSession, ClientState, Turn, is_at}
+use Words.ClientState.{Association, ClientSession, Turn, is_at}
 use Words.Keys.{server_node}
 use Words.Lengths.{nothing_after}
 use Words.Lists.{Has}

@@ -27,7 +27,6 @@ use Rattle.st_third.specs.Events as every
 use Rattle.st_third.specs.Events.{ThirdWorldTurn, unseen}
 use Rattle.st_third.specs.Limits.{limited_node}
 use Rattle.st_third.specs.Server as serving
-use Rattle.st_third.specs.Server.{node_step}
 use Rattle.st_third.specs.State.{ClientBeside, ThirdClientTurn}
 use Rattle.st_third.specs.World.{ThirdWorld, beside_of}
 use Rattle.st_laws_third.specs.Sessions.{AllFine, NoDemand, SessionFine, WordFine}

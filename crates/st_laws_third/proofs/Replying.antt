@@ -16,7 +16,7 @@ use Words.ClientState.{Association, ClientSession, Turn, answer_each, fits, is_a
 use Words.Keys.{server_node}
 use Words.Tables.{and_true, has_filter}
 use Rattle.st_laws_steps.specs.Client.Client as client
-use Rattle.st_laws_steps.specs.Client.Client.{Unasked, UnhardAnswer}
+use Rattle.st_laws_steps.specs.Client.Client.{Unasked}
 use Rattle.st_laws_steps.specs.Client.Session.{AsksNothing, DropsLock, EndsRequest, IsReasserted, NewEpoch}
 use Rattle.st_laws_steps.proofs.Client.Changes.{goes_keeps}
 use Rattle.st_laws_steps.proofs.Client.Replying.{Fresh, alike_condemned, alike_wait, granted_alike, same_store, session_ended}

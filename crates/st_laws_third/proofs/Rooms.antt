@@ -1,6 +1,6 @@
 -- Changes of pages, reads and writes of a client of the third form are lists of changes.
 use Rattle.st_lemmas.proofs.Words
-use Words.{◌≡◌, ℕ, Bool, true, false, List, [], ◌∷◌, Option, Some, None, not, refl, ◌∙◌, if◌then◌else◌, FileId, PageNo, AppAnswer, Ask, CleanPage, DirtyPage}
+use Words.{◌≡◌, ℕ, Bool, true, false, List, [], ◌∷◌, Option, Some, None, not, refl, ◌∙◌, if◌then◌else◌, FileId, PageNo, Ask, CleanPage, DirtyPage}
 use Words.{KnownExtent, MappedBlock, Note, Operation, Stamp}
 use Words.asks
 use Words.answers
@@ -11,7 +11,6 @@ use Words.FlatLog.{overlay}
 use Rattle.st_base.specs.Page.{filled}
 use Words.ClientPages as pages
 use Words.ClientPasses as passes
-use Words.ClientState as cs
 use Words.ClientState.{ClientSession, Turn, is_serving, keep, server_of, with_store}
 use Words.Tables.{and_true, not_true}
 use Rattle.st_laws_steps.specs.Client.Client as client

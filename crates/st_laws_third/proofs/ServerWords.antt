@@ -1,7 +1,7 @@
 -- What a server says: replies, grants, and demands, which have stamp 0; and no requests. The replies that it keeps are replies.
 use Rattle.st_lemmas.proofs.Words
 use Words.{◌≡◌, ◌⊎◌, ℕ, Bool, true, false, List, [], ◌∷◌, Some, None, refl, sym, subst, inl, inr, if◌then◌else◌}
-use Words.{AcceptRefusal, Body, ClientId, GrantNo, Header, Life, Message, Mode, Output, ServerInput, Session, SessionState, Stamp}
+use Words.{AcceptRefusal, Body, ClientId, Header, Life, Message, Output, ServerInput, Session, SessionState, Stamp}
 use Words.bodies
 use Words.outputs
 use Words.Keys.{put}

@@ -1,16 +1,15 @@
 -- In every run of the third form, no request for blocks is for more pages than a run may have.
 use Rattle.st_lemmas.proofs.Words
-use Words.{◌≡◌, ◌≤◌, ℕ, zero, suc, pred, true, List, [], ◌∷◌, Option, Some, None, refl, sym, ap, ◌∙◌, subst, inl, inr, arith, le-leb, list_all}
-use Words.{Body, ClientInput, Config, DemandedFile, GrantNo, HeldLock, Message, Mode, Observation, Output, Request, Stamp, WorldRefusal}
+use Words.{◌≡◌, ◌≤◌, ℕ, zero, suc, pred, true, List, [], ◌∷◌, Option, Some, None, refl, sym, subst, inl, inr, arith, le-leb, list_all}
+use Words.{Body, Config, DemandedFile, HeldLock, Message, Observation, Output, Stamp}
 use Words.bodies
-use Words.modes
 use Words.outputs
 use Words.Client as plain
 use Words.ClientLocks as locks
 use Words.ClientPages as pages
 use Words.ClientPages.{Store}
 use Words.ClientPasses as passes
-use Words.ClientState.{Association, ClientSession, Requests, Turn, asking, with_cache}
+use Words.ClientState.{Association, ClientSession, Requests, Turn, asking}
 use Words.Lists.{Has}
 use Rattle.st_rules.specs.declared.observation.Observation.TheVariants as plain_seen
 use Rattle.st_laws_steps.specs.Client.Client as client

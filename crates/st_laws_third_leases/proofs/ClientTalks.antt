@@ -32,7 +32,7 @@ use Rattle.st_laws_healthy.proofs.Telling.{IsUnasked, is_unasked}
 use Rattle.st_laws_healthy.proofs.Trips.{Begun, InTime}
 use Rattle.st_laws_healthy.proofs.Walking.{IsHeard, IsLeft, IsReceived, Meets, Met, Takes, Unmet, Walk, received_or_not}
 use Rattle.st_laws_third_leases.proofs.Numbering as numbering
-use Rattle.st_laws_third_leases.proofs.Numbering.{IsFromStep, numbers_after, spoken_as}
+use Rattle.st_laws_third_leases.proofs.Numbering.{IsFromStep, numbers_after}
 use Rattle.st_laws_third_leases.proofs.Placing.{Place, Resting}
 use Rattle.st_laws_third_leases.proofs.Requesting.{Asked, Earlier, IsNow, IsSpoken}
 use Rattle.st_laws_third_leases.proofs.Signing.{IsSigned}

@@ -29,7 +29,7 @@ use Rattle.st_laws_third_leases.proofs.Nodes.{Known, fits_at, id_at, paired_at}
 use Rattle.st_laws_third_leases.proofs.ServerSays.{Near, step_says, third_step_is}
 use Rattle.st_laws_third_leases.proofs.Signing.{signed}
 use Rattle.st_laws_third_leases.proofs.Stepping.{plain_input}
-use Rattle.st_laws_third_leases.proofs.Stories.{ByClient, ByServer, IsOff, IsQuiet, NoNode, OffClient, OffServer, OnlyTold, Restarts, Story, Took}
+use Rattle.st_laws_third_leases.proofs.Stories.{ByClient, ByServer, IsOff, IsQuiet, NoNode, OffClient, OffServer, Restarts, Story, Took}
 
 -- a step of a client
 pub record ClientSteps (w : ThirdWorld) (e : Event) (sc : ThirdWorldTurn) (s : ServerId) (c : ClientId) : Type 0 where

@@ -1,11 +1,10 @@
 -- A client of the third form hears a message: it does what a client of the first two forms does, except that it takes only a fresh welcome, answers a demand
 -- also while a release waits, and may give a lock back.
 use Rattle.st_lemmas.proofs.Words
-use Words.{◌≡◌, ◌+◌, ◌≤◌, ◌<◌, ◌⊎◌, ◌&&◌, ℕ, Bool, true, false, ◌==◌, List, [], ◌∷◌, ◌++◌, Option, Some, None, find, refl, sym, ap, ◌∙◌, subst, inl}
+use Words.{◌≡◌, ◌+◌, ◌≤◌, ◌⊎◌, ℕ, Bool, true, false, ◌==◌, List, [], ◌∷◌, ◌++◌, Option, Some, None, find, refl, sym, ap, ◌∙◌, subst, inl}
 use Words.{inr, if◌then◌else◌}
 use Words.{is_some, nat_lt, ltb-true, lt-ltb, Asked, Body, GrantNo, Header, Message, Mode, Operation, Request, Stamp, Why}
 use Words.bodies
-use Words.notes
 use Words.outputs
 use Words.why
 use Words.ClientLease as lease
@@ -13,7 +12,6 @@ use Words.ClientLocks as locks
 use Words.ClientReplies as cr
 use Words.ClientState as cs
 use Words.ClientState.{Association, ClientSession, Requests, Turn, forget_wait, reasserts, send, with_cache}
-use Words.Keys.{server_node}
 use Words.Lists.{Has}
 use Words.Tables.{and_both, and_true, cond_either, has_append}
 use Words.Truth.{not_both}

@@ -1,10 +1,10 @@
 -- Rules of a client of the third form that leave its session at a server alike and send nothing: they serve operations, give locks back, reduce files and
 -- write pages out.
 use Rattle.st_lemmas.proofs.Words
-use Words.{◌≡◌, ◌≢◌, ℕ, ◌⊎◌, ◌&&◌, Bool, true, false, List, [], ◌∷◌, ◌++◌, Option, Some, None, find, filter, map, refl, sym, ap, ◌∙◌, subst, inl, inr}
+use Words.{◌≡◌, ℕ, ◌⊎◌, ◌&&◌, Bool, true, false, List, [], ◌∷◌, ◌++◌, Option, Some, None, find, filter, map, refl, sym, ap, ◌∙◌, subst, inl, inr}
 use Words.{if◌then◌else◌}
 use Words.{append-nil, AppAnswer, Ask, DemandedFile, DirtyPage, FileId, HeldLock, KnownExtent, MappedBlock, Message, Note, Operation, Output, PageNo}
-use Words.{Release, Stamp}
+use Words.{Stamp}
 use Words.answers
 use Words.asks
 use Words.notes
@@ -14,7 +14,7 @@ use Words.ClientPages as pages
 use Words.ClientPasses as passes
 use Words.ClientReplies as replies
 use Words.ClientState as cs
-use Words.ClientState.{ClientSession, Turn, answer_each, answer_to, file_of, is_of, is_serving, keep, with_operations}
+use Words.ClientState.{ClientSession, Turn, answer_each, file_of, is_of, is_serving, keep, with_operations}
 use Words.Lists.{Has}
 use Words.Tables.{has_append}
 use Rattle.st_base.specs.Page.{filled}

@@ -21,7 +21,7 @@ use Rattle.st_third.specs.declared.output.ThirdOutput.TheVariants as says
 use Rattle.st_third.specs.Client as third
 use Rattle.st_third.specs.Leave as leaving
 use Rattle.st_third.specs.State as state
-use Rattle.st_third.specs.State.{ThirdTurn, all_said, plain_output, plainly, session}
+use Rattle.st_third.specs.State.{ThirdTurn, all_said, plainly, session}
 use Rattle.st_laws_healthy.proofs.Passing.{IsIdle, alike_self, idle_says, idle_self}
 use Rattle.st_laws_healthy.proofs.Taking.{ask_idle}
 use Rattle.st_laws_steps.specs.Client.Losses.{is_ended}

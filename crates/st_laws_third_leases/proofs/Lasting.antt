@@ -2,16 +2,15 @@
 use Rattle.st_lemmas.proofs.Words
 use Words.{◌≡◌, ℕ, ◌+◌, ◌*◌, ◌≤◌, ◌<◌, ◌⊎◌, Bool, true, false, List, [], ◌∷◌, ◌++◌, map, map-append, Option, Some, None, refl, sym, ap, ◌∙◌, subst}
 use Words.{inl, inr, arith}
-use Words.{◌≢◌, is_some, option_map, length, max, nat_le, le-leb, lt-leb, nat_lt, ltb-true, ltb-false, pred, unwrap_or, Life, ClientId, ClientInput}
+use Words.{◌≢◌, is_some, option_map, length, nat_le, le-leb, lt-leb, nat_lt, ltb-true, ltb-false, pred, unwrap_or, Life, ClientId, ClientInput}
 use Words.{Config, Event, Message, Output}
-use Words.{Request, ServerId, ServerInput, Session, Stamp, WorldRefusal}
+use Words.{Request, ServerId, Stamp, WorldRefusal}
 use Words.nodes
 use Words.outputs
 use Words.seen
 use Words.Authority.{may_ack}
 use Words.Client as cl
-use Words.ClientState.{Association, ClientSession, ClientState}
-use Words.Dating as dating
+use Words.ClientState.{Association, ClientSession}
 use Words.Events as ev
 use Words.Extents.{numbers}
 use Words.Keys.{server_node}
@@ -19,20 +18,20 @@ use Words.Grace.{Grace, is_on}
 use Words.Lists.{Has}
 use Words.Lookups.{some_is}
 use Words.Numbers.{numbered_below, numbered_has, numbered_own, set_length}
-use Words.Safety.{Promise, Step}
+use Words.Safety.{Step}
 use Words.Server as server
 use Words.Server.{ServerNode, ServerState, ServerTurn}
 use Words.Sessions as sessions
 use Words.Tables.{and_both}
 use Words.Truth.{not_both}
-use Words.World.{World, WorldClient, clock_of, fresh_site, fresh_world, node_at_start, node_of, numbered, site_of, stamp, with_numbered}
+use Words.World.{World, WorldClient, clock_of, fresh_site, fresh_world, node_at_start, node_of, numbered, site_of, stamp}
 use Rattle.std.proofs.Math.Nat.{le-max_left}
 use Rattle.st_laws_pages.proofs.Lives.Fresh.{fresh_is}
 use Rattle.st_laws_lasting.specs.Lasting.{client_clock, client_last_tick}
 use Rattle.st_laws_lasting.proofs.Young.{WasYoung}
 use Rattle.st_laws_leases.specs.Dates.Dates.{messages}
 use Rattle.st_laws_leases.proofs.Dates.Leaving.{has_numbered}
-use Rattle.st_laws_requests.specs.Cuts.Cuts.{Between, Numbers, Placed, SentIn, view}
+use Rattle.st_laws_requests.specs.Cuts.Cuts.{Between, Numbers, SentIn, view}
 use Rattle.st_laws_healthy.specs.Healthy.{IsHealthy, LeasesLast, NoneIsLost, longest}
 use Rattle.st_laws_steps.specs.Client.Losses.{is_ended}
 use Rattle.st_laws_healthy.proofs.ClientStanding.{IsNew}
@@ -58,7 +57,7 @@ use Rattle.st_laws_third.proofs.Told.{Answers, ByClient, ByFate, ByServer, Cuts,
 use Rattle.st_laws_third.proofs.Told.{ServerSeen, ServerSends, Steals, Submits, Suspects, Told, Writes, happens_told}
 use Rattle.st_laws_third_leases.proofs.Losses.{Blames, NoLoss, loss, losses_noted}
 use Rattle.st_third.specs.Events as every
-use Rattle.st_third.specs.Events.{ThirdWorldTurn, third_counted}
+use Rattle.st_third.specs.Events.{ThirdWorldTurn}
 use Rattle.st_third.specs.Limits.{IsHead, limited_node, limited_site, most_clients, with_limits}
 use Rattle.st_third.specs.Promises.{Throughout}
 use Rattle.st_third.specs.State.{ClientBeside, ThirdClientTurn}

@@ -1,6 +1,6 @@
 -- The nodes of a world of the third form: each has its number, a client has each server once, and clients are few. So it is at the start and after each event.
 use Rattle.st_lemmas.proofs.Words
-use Words.{◌≡◌, ◌≢◌, ℕ, zero, suc, ◌+◌, ◌≤◌, ◌⊎◌, Bool, true, false, List, [], ◌∷◌, length, map, pred, option_map, Option, Some, None, Ok, refl, sym}
+use Words.{◌≡◌, ◌≢◌, ℕ, zero, suc, ◌+◌, ◌≤◌, ◌⊎◌, Bool, true, false, List, [], ◌∷◌, length, map, pred, option_map, Option, Some, None, refl, sym}
 use Words.{ap, ◌∙◌, subst, inl, inr, arith}
 use Words.{eqb-true, ◌==◌, nat_le, leb-true, length-map, ClientId, Config, Event, NodeId, ServerId}
 use Words.events
@@ -16,7 +16,7 @@ use Words.Numbers.{numbered_below, numbered_other, numbered_own, set_length}
 use Words.Server as server
 use Words.Server.{ServerNode}
 use Words.Tables.{and_true, has_map, same_or_not}
-use Words.World.{World, WorldClient, clock_of, fresh_site, fresh_world, node_of, numbered, site_of, with_numbered}
+use Words.World.{World, WorldClient, clock_of, fresh_site, fresh_world, numbered, site_of, with_numbered}
 use Rattle.st_laws_pages.proofs.Lives.Fresh.{fresh_is}
 use Rattle.st_laws_healthy.proofs.Happening.{Brings}
 use Rattle.st_laws_steps.specs.Client.Losses.{Fit}

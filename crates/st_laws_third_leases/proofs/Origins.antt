@@ -7,7 +7,6 @@ use Words.nodes
 use Words.outputs
 use Words.serving
 use Words.ClientState.{Association}
-use Words.Events as ev
 use Words.Keys.{server_node}
 use Words.Lists.{Has}
 use Words.Lookups.{some_is}
@@ -17,7 +16,7 @@ use Words.Server.{ServerNode, ServerState, ServerTurn, thefts}
 use Words.Sessions.{session_of}
 use Words.Tables.{has_map_in, same_or_not}
 use Words.Truth.{not_both}
-use Words.World.{World, WorldClient, clock_of, node_of, numbered, site_of, with_numbered}
+use Words.World.{World, WorldClient, clock_of, node_of, numbered, site_of}
 use Rattle.st_laws_healthy.proofs.Happening.{BringsServer, Delivers}
 use Rattle.st_laws_healthy.proofs.Lives.{ComesFrom, IsOf, IsOlder, comes_from}
 use Rattle.st_laws_healthy.proofs.Origins.{Origins, SaidIn, before_thefts}

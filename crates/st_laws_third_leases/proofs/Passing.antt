@@ -1,15 +1,15 @@
 -- What the passes of a client of the third form do to its session at a server, and what they send: a session stays alike but for its requests, or its life
 -- ends because the client leaves; and each message that is sent is a greeting, or asks the outstanding request.
 use Rattle.st_lemmas.proofs.Words
-use Words.{◌≡◌, ℕ, ◌+◌, ◌⊎◌, ◌&&◌, Bool, true, false, not, List, [], ◌∷◌, ◌++◌, Option, Some, None, map, refl, sym, ap, ◌∙◌, subst, inl, inr}
+use Words.{◌≡◌, ◌+◌, ◌⊎◌, ◌&&◌, Bool, true, false, not, List, [], ◌∷◌, Option, Some, None, map, refl, sym, ap, ◌∙◌, subst, inl, inr}
 use Words.{if◌then◌else◌, is_some}
-use Words.{Body, ClientId, Life, Message, Operation, Release, Request, Stamp}
+use Words.{Body, Life, Message, Operation, Release, Request, Stamp}
 use Words.bodies
 use Words.outputs
 use Words.Client as cl
 use Words.ClientPasses as cp
 use Words.ClientState as cs
-use Words.ClientState.{Association, ClientSession, Turn, is_serving, send}
+use Words.ClientState.{ClientSession, Turn, is_serving, send}
 use Words.Lists.{Has}
 use Words.Lookups.{some_is}
 use Words.Tables.{and_true, has_append}

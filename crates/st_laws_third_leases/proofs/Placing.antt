@@ -1,7 +1,7 @@
 -- The numbers of the messages from before, through the rules of a client of the third form: an association's requests go on from them. And a message of a
 -- client that tells that a demand was seen has no number.
 use Rattle.st_lemmas.proofs.Words
-use Words.{◌≡◌, ℕ, ◌+◌, ◌≤◌, ◌<◌, ◌⊎◌, true, false, List, [], ◌∷◌, ◌++◌, Option, Some, None, refl, sym, ap, ◌∙◌, subst, inl, inr, arith, append_assoc}
+use Words.{◌≡◌, ℕ, ◌+◌, ◌≤◌, ◌<◌, ◌⊎◌, true, false, List, [], ◌++◌, Option, Some, None, refl, sym, ap, ◌∙◌, subst, inl, inr, arith, append_assoc}
 use Words.{Body, ClientId, DemandedFile, HeldLock, Life, Message, Request, ServerId, Stamp}
 use Words.bodies
 use Words.outputs

@@ -1,6 +1,6 @@
 -- What a server of any form sends is from it; and a step of it leaves its number, its epochs and its grace.
 use Rattle.st_lemmas.proofs.Words
-use Words.{◌≡◌, ℕ, ◌⊎◌, Bool, true, eqb-true, List, [], ◌∷◌, ◌++◌, Some, refl, sym, ap, ◌∙◌, subst, inl, inr, Body, Header, Message, Output, ServerId}
+use Words.{◌≡◌, ℕ, ◌⊎◌, Bool, true, eqb-true, List, [], ◌∷◌, ◌++◌, refl, sym, ap, ◌∙◌, subst, inl, inr, Body, Header, Message, Output, ServerId}
 use Words.{ServerInput, Stamp}
 use Words.notes
 use Words.outputs

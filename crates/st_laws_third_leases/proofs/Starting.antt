@@ -3,21 +3,20 @@
 use Rattle.st_lemmas.proofs.Words
 use Words.{◌≡◌, ℕ, ◌+◌, ◌≤◌, ◌<◌, ◌⊎◌, Bool, true, false, List, [], ◌∷◌, ◌++◌, map, append-nil, append_assoc, length, Option, Some, None, refl, sym}
 use Words.{ap, ◌∙◌, subst, inl, inr, arith}
-use Words.{unwrap_or, ClientId, Config, Message, ServerId, Stamp, WorldRefusal}
+use Words.{unwrap_or, ClientId, Config, Message, ServerId, WorldRefusal}
 use Words.events
 use Words.nodes
 use Words.seen
-use Words.ClientState.{Association, ClientSession}
+use Words.ClientState.{Association}
 use Words.Events as ev
 use Words.Grace.{is_on}
-use Words.Keys.{server_node}
 use Words.Lists.{Has}
 use Words.Lookups.{some_is}
 use Words.Numbers.{numbered_below, numbered_has}
 use Words.Safety.{Step}
 use Words.Server.{ServerNode}
 use Words.Sessions.{session_of}
-use Words.World.{World, WorldClient, clock_of, node_of, numbered, site_of, stamp}
+use Words.World.{WorldClient, clock_of, node_of, numbered, site_of, stamp}
 use Rattle.st_laws_healthy.specs.Healthy.{IsHealthy, IsOutOfGrace, LeasesLast, NoneIsLost}
 use Rattle.st_laws_healthy.proofs.Numbers.{keeps_place}
 use Rattle.st_laws_healthy.proofs.Origins.{SaidIn, none_said}

@@ -2,7 +2,7 @@
 use Rattle.st_lemmas.proofs.Words
 use Words.{◌≡◌, ℕ, ◌+◌, ◌⊎◌, arith, Bool, true, false, ◌==◌, List, [], ◌∷◌, ◌++◌, Option, Some, None, refl, sym, ap, ◌∙◌, subst, inl, inr}
 use Words.{if◌then◌else◌, is_some}
-use Words.{eq-eqb, AppAnswer, ClientId, ClientInput, Config, DirtyPage, Life, Message, Request, ServerId, Stamp}
+use Words.{eq-eqb, AppAnswer, ClientId, ClientInput, Config, DirtyPage, Message, Request, ServerId, Stamp}
 use Words.answers
 use Words.inputs
 use Words.outputs
@@ -185,14 +185,14 @@ module _ (m : Limits) (c : ThirdClient) (now : Stamp) (input : ThirdInput) (pair
   Nobody a x = ⊥
 
   -- The losses.
-  abbrev R1 : (Message → Type 0) → Association → Association → Type 0
-  R1 S a b = LosesAt k now a b
+  abbrev LostPair : (Message → Type 0) → Association → Association → Type 0
+  LostPair S a b = LosesAt k now a b
 
   -- it fits, and what it asks is plain
   abbrev Ready : Association → Type 0
   Ready a = Fit a × ViewPlain (view a.session)
 
-  pub one1 : (t : ThirdTurn) → t.plain.id ≡ id → t.plain.config ≡ k → Ready t.plain.here → One R1 Nobody t (leaving.lose now t)
+  pub one1 : (t : ThirdTurn) → t.plain.id ≡ id → t.plain.config ≡ k → Ready t.plain.here → One LostPair Nobody t (leaving.lose now t)
   one1 t e q f =
       let y = subst (λ kb. IsLostOrNot kb now t (leaving.lose now t)) q (loses_or_not now t) in
       record {
@@ -227,9 +227,9 @@ module _ (m : Limits) (c : ThirdClient) (now : Stamp) (input : ThirdInput) (pair
           go false e = subst (Places t.plain.here) (sym (a e)) (λ ms d p. p)
           go true e = λ ms d p. let z = b e in place_next ms d t.plain.here u.plain.here s z.0 z.1 p
 
-  pub lost : Each m k id (leaving.lose now) Ready R1 Nobody (λ t a b r. r) one1 t0 t1
+  pub lost : Each m k id (leaving.lose now) Ready LostPair Nobody (λ t a b r. r) one1 t0 t1
   unfolding third.losses
-  lost = each m k id (leaving.lose now) Ready R1 Nobody (λ t a b r. r) one1 t0 refl refl pairing (λ a h. (fit a h, unseen a h))
+  lost = each m k id (leaving.lose now) Ready LostPair Nobody (λ t a b r. r) one1 t0 refl refl pairing (λ a h. (fit a h, unseen a h))
 
   pub ready1 : (a : Association) → Has a t1.client.plain.associations → Ready a
   ready1 =
@@ -240,8 +240,8 @@ module _ (m : Limits) (c : ThirdClient) (now : Stamp) (input : ThirdInput) (pair
   abbrev InTakes : Association → Association → Type 0
   InTakes a b = Takes k.renew now i a b × Dates k now a.session b.session × Places a b
 
-  abbrev R2 : (Message → Type 0) → Association → Association → Type 0
-  R2 S a b = InTakes a b
+  abbrev TakenPair : (Message → Type 0) → Association → Association → Type 0
+  TakenPair S a b = InTakes a b
 
   abbrev Saw : Association → Message → Type 0
   Saw a x = IsSeen x.body × (x.header.number ≡ 0)
@@ -287,9 +287,9 @@ module _ (m : Limits) (c : ThirdClient) (now : Stamp) (input : ThirdInput) (pair
 
   each_left : NoMessage → (rule : ThirdTurn → ThirdTurn) → ((t : ThirdTurn) → LeavesAlike t (rule t)) → Taken (at_each m rule t1)
   each_left n rule alike =
-      let one2 : (t : ThirdTurn) → t.plain.id ≡ id → t.plain.config ≡ k → Ready t.plain.here → One R2 Nobody t (rule t) =
+      let one2 : (t : ThirdTurn) → t.plain.id ≡ id → t.plain.config ≡ k → Ready t.plain.here → One TakenPair Nobody t (rule t) =
       λ t e q f. record { does = alike_left n t (rule t) (alike t); sends = λ x h. inl ((alike t).quiet x h) } in
-      let w = each m k id rule Ready R2 Nobody (λ t a b r. r) one2 t1 lost.id_is lost.config lost.paired ready1 in
+      let w = each m k id rule Ready TakenPair Nobody (λ t a b r. r) one2 t1 lost.id_is lost.config lost.paired ready1 in
       record {
         id_is = w.id_is;
         config = w.config;
@@ -342,7 +342,7 @@ module _ (m : Limits) (c : ThirdClient) (now : Stamp) (input : ThirdInput) (pair
       numbered os more y (inr s) (inl h) p = inl h
       numbered os more y (inr s) (inr h) p = inr (s, p (says.Plain (outputs.Send y)) h (seen_plain y.body s))
 
-      one2 : (t : ThirdTurn) → t.plain.id ≡ id → t.plain.config ≡ k → Ready t.plain.here → One R2 Saw t (receive_at now x.header x.body t)
+      one2 : (t : ThirdTurn) → t.plain.id ≡ id → t.plain.config ≡ k → Ready t.plain.here → One TakenPair Saw t (receive_at now x.header x.body t)
       one2 t d q f =
           let n = changes_third now t _ (receives now x.header x.body t f.0.fresh) in
           let g = changes_go _ now t _ (receives now x.header x.body t f.0.fresh) in
@@ -357,8 +357,8 @@ module _ (m : Limits) (c : ThirdClient) (now : Stamp) (input : ThirdInput) (pair
                 (has_append (all_said t) g.more _ (subst (λ os. Sent os y) g.said h)) (g.words f.1);
           }
 
-      w : Each m k id (receive_at now x.header x.body) Ready R2 Saw (λ t a b r. r) one2 t1 (at_each m (receive_at now x.header x.body) t1)
-      w = each m k id (receive_at now x.header x.body) Ready R2 Saw (λ t a b r. r) one2 t1 lost.id_is lost.config lost.paired ready1
+      w : Each m k id (receive_at now x.header x.body) Ready TakenPair Saw (λ t a b r. r) one2 t1 (at_each m (receive_at now x.header x.body) t1)
+      w = each m k id (receive_at now x.header x.body) Ready TakenPair Saw (λ t a b r. r) one2 t1 lost.id_is lost.config lost.paired ready1
 
       seen : (y : Message) → Sent t1.out y ⊎ ((b : Association) × Has b (at_each m (receive_at now x.header x.body) t1).client.plain.associations × Saw_one y) →
           Sent t1.out y ⊎ Saw_one y
@@ -393,8 +393,8 @@ module _ (m : Limits) (c : ThirdClient) (now : Stamp) (input : ThirdInput) (pair
           asks_left (no_message inputs.Tick inputs.Tick (ap plain_input e) (λ x q. cc)) op s (leaving.take_leave op) (leave_alike op)
 
   -- The passes.
-  abbrev R3 : (Message → Type 0) → Association → Association → Type 0
-  R3 S a b = PassesAt k id now S a b
+  abbrev PassedPair : (Message → Type 0) → Association → Association → Type 0
+  PassedPair S a b = PassesAt k id now S a b
 
   abbrev Spoke : Association → Message → Type 0
   Spoke a x = IsSpoken id now a x
@@ -430,7 +430,7 @@ module _ (m : Limits) (c : ThirdClient) (now : Stamp) (input : ThirdInput) (pair
       go : (u : ThirdTurn) → ThirdPasses now t u → Places t.plain.here u.plain.here
       go u p = λ ms x y. by p.left u p.asks ms x (left p.written p.left p.leaves ms x (by t p.written p.works ms x y))
 
-  more_asked : (t : ThirdTurn) (a b : Association) → R3 (Sent (all_said t)) a b → R3 (Sent (all_said (passes t))) a b
+  more_asked : (t : ThirdTurn) (a b : Association) → PassedPair (Sent (all_said t)) a b → PassedPair (Sent (all_said (passes t))) a b
   more_asked t a b r =
       record {
         server = r.server;
@@ -444,7 +444,7 @@ module _ (m : Limits) (c : ThirdClient) (now : Stamp) (input : ThirdInput) (pair
       by z q (Earlier s e x y) = Earlier s e x y
       by z q (IsNow x h f g l e n) = IsNow x (passes_grow now (third.is_tick input) t x h) f g l e n
 
-  one3 : (t : ThirdTurn) → t.plain.id ≡ id → t.plain.config ≡ k → Unit {0} → One R3 Spoke t (passes t)
+  one3 : (t : ThirdTurn) → t.plain.id ≡ id → t.plain.config ≡ k → Unit {0} → One PassedPair Spoke t (passes t)
   one3 t e q f =
       let w = passes_work now (third.is_tick input) t in
       record {
@@ -463,9 +463,9 @@ module _ (m : Limits) (c : ThirdClient) (now : Stamp) (input : ThirdInput) (pair
       goes (inl y) = inl (record { life = y.life; session = y.session; greeting = y.greeting })
       goes (inr y) = inr (record { life = y.life; was = y.was; none = y.none })
 
-  worked : Taken t2 → Each m k id passes (λ a. Unit {0}) R3 Spoke more_asked one3 t2 t3
+  worked : Taken t2 → Each m k id passes (λ a. Unit {0}) PassedPair Spoke more_asked one3 t2 t3
   unfolding third.work
-  worked y = each m k id passes (λ a. Unit {0}) R3 Spoke more_asked one3 t2 (y.id_is ∙ lost.id_is) (y.config ∙ lost.config) y.paired (λ a h. tt)
+  worked y = each m k id passes (λ a. Unit {0}) PassedPair Spoke more_asked one3 t2 (y.id_is ∙ lost.id_is) (y.config ∙ lost.config) y.paired (λ a h. tt)
 
   -- What becomes of each association, and why each message is sent.
   pub record Stepped (after : ThirdClientTurn) : Type 0 where
@@ -495,7 +495,7 @@ module _ (m : Limits) (c : ThirdClient) (now : Stamp) (input : ThirdInput) (pair
         sends = λ x h. go x (w.sends x h);
       }
     where
-      w : Each m k id passes (λ a. Unit {0}) R3 Spoke more_asked one3 t2 t3
+      w : Each m k id passes (λ a. Unit {0}) PassedPair Spoke more_asked one3 t2 t3
       w = worked y
 
       Two : Association → Association → Type 0

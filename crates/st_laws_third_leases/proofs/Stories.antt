@@ -3,7 +3,7 @@
 use Rattle.st_lemmas.proofs.Words
 use Words.{◌≡◌, ◌≢◌, ℕ, ◌+◌, ◌-◌, ◌≤◌, ◌⊎◌, Bool, true, false, List, [], ◌∷◌, ◌++◌, length, map, pred, Option, Some, None, Ok, Err, refl, sym, ap}
 use Words.{◌∙◌, subst, inl, inr, arith, if◌then◌else◌}
-use Words.{◌==◌, zero, suc, nat_le, le-leb, leb-true, leb-false, eqb-true, eq-eqb, ne_eqb, unwrap_or, ClientId, ClientInput, Life, Event, IssuedCommand}
+use Words.{◌==◌, zero, suc, nat_le, leb-true, leb-false, eq-eqb, ne_eqb, unwrap_or, ClientId, Life, Event, IssuedCommand}
 use Words.{Message, NodeId, Observation, SentMessage, ServerId, ServerInput, Stamp}
 use Words.events
 use Words.inputs

@@ -2,23 +2,20 @@
 use Rattle.st_lemmas.proofs.Words
 use Words.{◌≡◌, ◌≢◌, ℕ, ◌+◌, ◌≤◌, ◌<◌, ◌⊎◌, ◌||◌, Bool, true, false, List, [], ◌∷◌, ◌++◌, map, map-append, Option, Some, None, Ok, refl, sym, ap, ◌∙◌}
 use Words.{subst, inl, inr, arith}
-use Words.{if◌then◌else◌, is_some, length, pred, unwrap_or, nat_le, leb-true, leb-false, ltb-true, length-map, Event, ClientId, Config, NodeId, Phase}
+use Words.{if◌then◌else◌, is_some, unwrap_or, nat_le, leb-true, leb-false, ltb-true, Event, ClientId, Config, Phase}
 use Words.{Stamp, WorldRefusal}
-use Words.events
 use Words.nodes
 use Words.phases
-use Words.Admissible as admissible
 use Words.ClientLease as lease
 use Words.ClientState.{Association, ClientSession}
 use Words.Events as ev
-use Words.Extents.{numbers}
 use Words.Leases.{phase, phase_living, phase_serving, phase_young}
 use Words.Lists.{Has}
 use Words.Lookups.{some_is}
 use Words.Numbers.{numbered_below, numbered_other, numbered_own}
 use Words.Tables.{and_true, cond_either, same_or_not}
 use Words.Truth.{not_both}
-use Words.World.{WorldClient, clock_of, fresh_site, fresh_world, numbered, site_of, stamp, with_numbered}
+use Words.World.{WorldClient, clock_of, fresh_world, numbered, site_of, stamp, with_numbered}
 use Rattle.st_laws_lasting.specs.Lasting.{ClientTicksInTime, RestingLeasesAreYoung, client_clock, client_last_tick, client_ticked, client_ticks_at}
 use Rattle.st_laws_lasting.specs.Resting.{IsBusy}
 use Rattle.st_laws_lasting.proofs.Young.{WasYoung, last_more}
@@ -34,7 +31,7 @@ use Rattle.st_third.specs.declared.event.ThirdEvent.{ThirdEvent}
 use Rattle.st_third.specs.declared.event.ThirdInput.{ThirdInput}
 use Rattle.st_third.specs.declared.limits.Limits.{Limits}
 use Rattle.st_third.specs.Events as every
-use Rattle.st_third.specs.Events.{ThirdWorldTurn, third_counted}
+use Rattle.st_third.specs.Events.{ThirdWorldTurn}
 use Rattle.st_third.specs.Limits.{with_limits}
 use Rattle.st_third.specs.Promises.{Throughout}
 use Rattle.st_third.specs.State.{ClientBeside}

@@ -2,27 +2,22 @@
 -- operation waits for which it was sent, or the lease doesn't serve, or a lock of the file was held.
 -- A request that names a grant was sent under a lock of its file.
 use Rattle.st_lemmas.proofs.Words
-use Words.{◌≡◌, ◌⊎◌, ℕ, ◌+◌, ◌≤◌, ◌<◌, arith, Bool, true, false, not, ◌&&◌, ◌||◌, ◌==◌, List, [], ◌∷◌, ◌++◌, Option, Some, None, refl, sym, ap, ◌∙◌, subst, inl, inr, if◌then◌else◌}
-use Words.{append-nil, append_assoc, eq-eqb, eqb-true, filter, is_some, le-leb, leb-true, map, nat_le, Ask, Body, ClientId, Config, FileId, GrantNo, Header, HeldLock, KnownExtent, Message, Mode, Operation, PageCommand, PageNo, Request, ServerId, Stage, Stamp, Tag, Why}
-use Words.answers
+use Words.{◌≡◌, ◌⊎◌, ℕ, ◌≤◌, arith, Bool, true, false, not, ◌&&◌, ◌==◌, List, [], ◌∷◌, ◌++◌, Option, Some, None, refl, sym, ap, ◌∙◌, subst, inl, inr}
+use Words.{append-nil, append_assoc, eq-eqb, eqb-true, filter, map, Ask, Body, ClientId, Config, FileId, GrantNo, Header, KnownExtent, Message, Mode, Operation, PageCommand, PageNo, Request, ServerId, Stamp, Tag, Why}
 use Words.asks
 use Words.bodies
 use Words.io
 use Words.modes
-use Words.phases
-use Words.stages
 use Words.Client as cl
 use Words.ClientLease as lease
 use Words.ClientLocks as locks
-use Words.ClientLocks.{LockCache}
 use Words.ClientPages as pages
 use Words.ClientPages.{Store}
 use Words.ClientPasses as cp
 use Words.ClientReplies as cr
 use Words.ClientState as cs
 use Words.ClientState.{Association, ClientSession, Requests, Turn, only_at, server_of, with_operations}
-use Words.Keys.{put, same_page, same_server}
-use Words.Leases as leases
+use Words.Keys.{same_page, same_server}
 use Words.Lists.{Has}
 use Words.Lookups.{some_is}
 use Words.Members.{has_left, has_right}
@@ -47,26 +42,7 @@ use Rattle.st_laws_requests.specs.Cuts.Cuts.{Between, Counts, Keyed, Placed, vie
 use Rattle.st_laws_extents.specs.DiskReads.OutstandingReads.{ReadsClean}
 use Rattle.st_laws_volume.proofs.AwaitedKinds.{condemned_rests, unmapped_before, works, works_here, writes, writes_works}
 use Rattle.st_laws_volume.proofs.KnownLocks as keeping
-
--- An operation waits that was asked before.
-pub record IsWaiting (Before : ServerId → ℕ → ℕ → ℕ → ℕ → Type 0) (test : Operation → Bool) (s : ServerId) (life epoch number : ℕ) (os : List Operation) : Type 0 where
-  pub o : Operation
-  pub there : Has o os
-  pub picked : test o ≡ true
-  pub before : Before s life epoch number o.op
-
--- What waits for the reply to a request: for a block, an operation that changes its page, which isn't
--- known as mapped; and for a lock, an operation of its file, or a fact of the file is known. If none
--- waits, the session is idle. The fact is known of the file of a request that names a grant.
-abbrev pub WaitsFor : (ServerId → ℕ → ℕ → ℕ → ℕ → Type 0) → (ServerId → ℕ → Type 0) → (ClientSession → Type 0) → ServerId → ℕ → ClientSession →
-    List KnownExtent → List Operation → ℕ → Body → Type 0
-WaitsFor Before Known Idle s life x xs os n (bodies.Allocate ino g p count) =
-    (pages.is_mapped xs ino p ≡ false) × ((IsWaiting Before (writes s ino p) s life x.epoch.0 n os ⊎ Idle x) × Known s ino)
-WaitsFor Before Known Idle s life x xs os n (bodies.Acquire ino mode) =
-    (IsWaiting Before (works s ino) s life x.epoch.0 n os ⊎ Idle x) ⊎ Known s ino
-WaitsFor Before Known Idle s life x xs os n (bodies.Map ino g p) = Known s ino
-WaitsFor Before Known Idle s life x xs os n (bodies.Cut ino g p) = Known s ino
-WaitsFor Before Known Idle s life x xs os n b = Unit {0}
+use Rattle.st_laws_volume.proofs.AwaitedReplies.{IsWaiting, WaitsFor}
 
 module _ (M : List Message) (c : ClientId) (Before : ServerId → ℕ → ℕ → ℕ → ℕ → Type 0)
     (fresh : (s : ServerId) (life epoch number op : ℕ) → ((m : Message) → Has m M → Keyed c s life epoch number m → ⊥) → Before s life epoch number op)

@@ -27,7 +27,7 @@ use Rattle.st_laws_pages.proofs.Asks.World.{asks_of}
 use Rattle.st_laws_requests.specs.Cuts.Cuts.{AssociationOk, CutsHold, Early, Keyed}
 use Rattle.st_laws_requests.proofs.Cuts.Step.{onces}
 use Rattle.st_laws_volume.proofs.AwaitedAsks as awaited
-use Rattle.st_laws_volume.proofs.AwaitedAsks.{IsWaiting, WaitsFor}
+use Rattle.st_laws_volume.proofs.AwaitedReplies.{IsWaiting, WaitsFor}
 use Rattle.st_laws_volume.proofs.AwaitedKinds.{rests_on, works, writes}
 use Rattle.st_laws_volume.proofs.AwaitedSteps as steps
 use Rattle.st_laws_volume.proofs.AwaitedSteps.{All, HeardTells, Quiet}

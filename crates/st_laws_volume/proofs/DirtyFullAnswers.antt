@@ -68,8 +68,10 @@ use Rattle.st_laws_volume.proofs.OpenAnswers.{OfAnswers, at_both, at_silent, blo
 use Rattle.st_laws_volume.proofs.Options.{on_more}
 use Rattle.st_laws_volume.proofs.OwedEntries.{Block, Tell, block_plain, block_tells}
 use Rattle.st_laws_volume.proofs.OwedHolds as owed
-use Rattle.st_laws_volume.proofs.OwedHolds.{AllOf, Known, RowsHold, all_of, latest_on, mute_silent, rows_begin, rows_kept, silent_both}
+use Rattle.st_laws_volume.proofs.OwedHolds.{AllOf, Known, RowsHold, all_of, mute_silent, rows_begin, rows_kept, silent_both}
+use Rattle.st_laws_volume.proofs.UnchangedEntries.{latest_on}
 use Rattle.st_laws_volume.proofs.OwedLines as owing
+use Rattle.st_laws_volume.proofs.OwedLosses as losing
 use Rattle.st_laws_volume.proofs.PresentLives.{next_life_upto, stepped}
 use Rattle.st_laws_volume.proofs.ReadPages.{throughout_both}
 use Rattle.st_laws_volume.proofs.StepKinds.{lines_inside}
@@ -522,7 +524,7 @@ module _ (past : List Step) (t : Traced) (e : Event) (sc : WorldTurn) (it : Witn
       (of_lines w sc.seen) y
       (at_two (λ it u. IsClear w u) Clearly (of_lines w sc.seen) y
       (lasting_at (IsClear w) (clear_lasts w) (of_lines w sc.seen) y (lines_inside w sc.seen) clear)
-      (owing.lines_J past t e sc f it h.met g.1.0.0 v m.log_ m.asked m.marked m.met m.wait g.0.0.0 r
+      (losing.lines_J past t e sc f it h.met g.1.0.0 v m.log_ m.asked m.marked m.met m.wait g.0.0.0 r
       s h.late h.once k.all Clearly one_line [] sc.seen
       w.log y refl silent refl g.0.1.1 refl k.state k.its).0)
 

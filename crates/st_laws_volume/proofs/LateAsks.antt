@@ -49,7 +49,7 @@ use Rattle.st_laws_volume.proofs.AnswerCauses.{IsOfPage, IsRefusal, Says}
 use Rattle.st_laws_volume.proofs.AnswerFacts.{AllOf, FactsOf, Known, all_of, facts_begin, facts_on, known_in}
 use Rattle.st_laws_volume.proofs.AnswerLines.{LastsInside, step_of}
 use Rattle.st_laws_volume.proofs.AskClient.{coming}
-use Rattle.st_laws_volume.proofs.AwaitedAsks.{IsWaiting, WaitsFor}
+use Rattle.st_laws_volume.proofs.AwaitedReplies.{IsWaiting, WaitsFor}
 use Rattle.st_laws_volume.proofs.AwaitedKinds.{writes}
 use Rattle.st_laws_volume.proofs.AwaitedSteps.{Quiet}
 use Rattle.st_laws_volume.proofs.AwaitedWorlds.{AwaitsOf, Idle, awaits_begin, awaits_on}

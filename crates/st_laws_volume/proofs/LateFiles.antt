@@ -54,7 +54,7 @@ use Rattle.st_laws_volume.proofs.AnswerCauses.{IsOfFile, IsRefusal, Says}
 use Rattle.st_laws_volume.proofs.AnswerFacts.{FactsOf, Known, facts_begin, known_in}
 use Rattle.st_laws_volume.proofs.AnswerLines.{LastsInside, step_of}
 use Rattle.st_laws_volume.proofs.AskWords.{file_words, server_words, sync_words}
-use Rattle.st_laws_volume.proofs.AwaitedAsks.{IsWaiting, WaitsFor}
+use Rattle.st_laws_volume.proofs.AwaitedReplies.{IsWaiting, WaitsFor}
 use Rattle.st_laws_volume.proofs.AwaitedKinds.{works}
 use Rattle.st_laws_volume.proofs.AwaitedSteps.{HeardTells}
 use Rattle.st_laws_volume.proofs.AwaitedWorlds.{AwaitsOf, Idle, awaits_begin, awaits_on}

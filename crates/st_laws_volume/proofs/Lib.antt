@@ -20,6 +20,7 @@ pub mod AsksFollowed
 pub mod AsksTaken
 pub mod AwaitedAsks
 pub mod AwaitedKinds
+pub mod AwaitedReplies
 pub mod AwaitedSteps
 pub mod AwaitedWorlds
 pub mod BlocksWanted
@@ -107,6 +108,7 @@ pub mod LeftAnswers
 pub mod VolumeLaw
 pub mod LifeAnswers
 pub mod LineOrder
+pub mod ListTests
 pub mod LogEntries
 pub mod LogLines
 pub mod LogSteps
@@ -136,12 +138,14 @@ pub mod OpenRequests
 pub mod OpenResults
 pub mod Options
 pub mod OrphanResults
+pub mod OrphanedAsks
 pub mod OtherAnswers
 pub mod OutstandingReads
 pub mod OutstandingRows
 pub mod OwedEntries
 pub mod OwedHolds
 pub mod OwedLines
+pub mod OwedLosses
 pub mod OwedRows
 pub mod OwedSteps
 pub mod PageBlocks
@@ -189,6 +193,7 @@ pub mod SessionEpochs
 pub mod SharedMarks
 pub mod Shown
 pub mod SoonerAsks
+pub mod SortedOperations
 pub mod Start
 pub mod StepAnswers
 pub mod StepKinds
@@ -208,6 +213,7 @@ pub mod TreeTurns
 pub mod TreeWorld
 pub mod Trees
 pub mod UncertainAnswers
+pub mod UnchangedEntries
 pub mod UngivenFiles
 pub mod UnheldAnswers
 pub mod UnheldAsks

@@ -95,24 +95,7 @@ use Rattle.st_laws_volume.proofs.UncertainAnswers.{cut_same, server_same}
 use Rattle.st_laws_volume.proofs.UnservedAsks.{Known, NoneHold, NoneToo, WasServed, known_in, none_begins, none_on}
 use Rattle.st_volume.specs.Volume as volume
 use Rattle.st_volume.specs.Volume.{Volume, epoch, is_ask, is_of_client, open_of, run}
-
--- the ask of this number of a client is among these
-abbrev pub IsIn : ClientId → ℕ → List volume.Pending → Type 0
-IsIn c op xs = (a : volume.Pending) × Has a xs × (is_ask c op a ≡ true)
-
--- The ask of a message is orphaned, and no longer pending; and the requests of its life before it were served.
-pub record OrphanOf (past : List Step) (w : World) (v : Volume) (c : ClientId) (s : ServerId) (os : List Operation) (m : Message) : Type 0 where
-  pub op : ℕ
-  pub ask : Ask
-  pub asked : world.numbered (asks_of past c) op ≡ Some ask
-  pub of : cs.server_of ask ≡ s
-  pub means : AsksFor ask m.body
-  pub row : Row past w c s m op
-  pub gone : (o : Operation) → Has o os → o.op ≡ op → ⊥
-  pub before : AllPast w c s (earlier m)
-  pub between : Between c s m
-  pub orphan : IsIn c op v.orphans
-  pub sooner : NoneSooner v c op ask
+use Rattle.st_laws_volume.proofs.OrphanedAsks.{IsIn, OrphanOf}
 
 -- The ask of this number is open or orphaned, and of the open asks of its client none must take effect before it.
 record Next (past : List Step) (v : Volume) (c : ClientId) (op : ℕ) : Type 0 where

@@ -1,19 +1,17 @@
 -- In every run each row that is owed names an entry, and the volume takes each answer `lost`.
 use Rattle.st_lemmas.proofs.Words
 use Words.{◌≡◌, ◌≤◌, ◌⊎◌, ℕ, zero, suc, ◌+◌, Bool, true, false, not, ◌&&◌, ◌||◌, ◌==◌, List, [], ◌∷◌, ◌++◌, Option, Some, None, Ok, refl, sym, ap, ◌∙◌, subst, inl, inr, arith, if◌then◌else◌}
-use Words.{eq-eqb, eqb-true, find, is_some, length, list_all, list_any, lt-ltb, map, nat_lt, slice_get, ClientId, Event, FileId, Life, PageNo, ServerId, AppAnswer, Ask, Fate}
+use Words.{eq-eqb, eqb-true, find, is_some, length, list_all, list_any, lt-ltb, nat_lt, slice_get, ClientId, Event, Life, PageNo, ServerId, AppAnswer, Ask}
 use Words.{LogEntry, LogOwner, LostPage, Observation}
 use Words.answers
 use Words.asks
 use Words.events
-use Words.fates
 use Words.nodes
 use Words.seen
 use Words.ClientState.{Association}
 use Words.Events as ev
 use Words.Events.{WorldTurn, latest, world_step}
 use Words.FlatLog as log
-use Words.Keys.{same_client}
 use Words.Lines as lines
 use Words.Lines.{IsLogTold}
 use Words.Lists.{Has}
@@ -21,7 +19,7 @@ use Words.Lookups.{if_true, some_is}
 use Words.Numbers.{get_has, get_there, numbered_below}
 use Words.Safety.{IsHead, Promise, Step, Throughout, ask_of, is_crash_of, is_event, step, steps}
 use Words.Tables.{and_both, and_true}
-use Words.Truth.{client_is, clash}
+use Words.Truth.{clash}
 use Words.World as world
 use Words.World.{World, WorldClient, fresh_world, numbered, site_of}
 use Rattle.st_base.specs.declared.config.Config.{Config}
@@ -29,10 +27,9 @@ use Rattle.st_base.specs.declared.rows.LostRow.{LostRow}
 use Rattle.st_rules.specs.History.{Traced, traced}
 use Rattle.st_rules.specs.Client.{association_with}
 use Rattle.st_rules.specs.ClientState.{is_at}
-use Rattle.st_rules.specs.Keys.{same_file, same_page}
 use Rattle.st_promises.specs.Losses.{AreLossesTold, IsLossTold, IsToldBy, IsToldTo, as_told, owed, owed_from, owed_along, owed_behind, owed_of_file, owes}
 use Rattle.st_promises.specs.Safe.{EveryRunIsSafe, IsSafeRun}
-use Rattle.st_laws_steps.specs.Lives.Lives.{LivesHold, owner_of}
+use Rattle.st_laws_steps.specs.Lives.Lives.{LivesHold}
 use Rattle.st_laws_pages.specs.Asks.Law.{PlacesHold}
 use Rattle.st_laws_pages.specs.Disks.Obligations.{FatesHold}
 use Rattle.st_laws_pages.specs.Disks.Runs.{PagesAfter}
@@ -41,13 +38,11 @@ use Rattle.st_laws_pages.proofs.Asks.Law.{places_law}
 use Rattle.st_laws_pages.proofs.Asks.World.{asks_of}
 use Rattle.st_laws_pages.proofs.Causes.Law.{one_step}
 use Rattle.st_laws_pages.proofs.Disks.Whole.{fates_law}
-use Rattle.st_laws_pages.proofs.Flush.Caring.{latest_stays}
-use Rattle.st_laws_pages.proofs.Flush.FlushSteps.{latest_owners}
 use Rattle.st_laws_pages.proofs.Causes.Commands.{latest_high}
 use Rattle.st_laws_volume.specs.AnswerKinds.{is_lost_answer, is_told_whole}
 use Rattle.st_laws_volume.specs.Asks.{AsksOf, HasAsksOf, at_site, in_volume}
 use Rattle.st_laws_volume.specs.DirtyPages.{WasDirty, is_change_of}
-use Rattle.st_laws_volume.specs.HardFiles.{HardFilesAreClean, is_page_at}
+use Rattle.st_laws_volume.specs.HardFiles.{HardFilesAreClean}
 use Rattle.st_laws_volume.specs.Logs.{InEveryRun, IsLogOf}
 use Rattle.st_laws_volume.specs.LossMarks.{AllOnce, AreMet, IsLate, LateFailed, LatePagesHaveFailed, PagesAreOnce}
 use Rattle.st_laws_volume.specs.Options.{OnSome}
@@ -62,7 +57,7 @@ use Rattle.st_laws_volume.proofs.AskEvents.{AllOpenFor}
 use Rattle.st_laws_volume.proofs.Asks.{AsksHold, asks_begin, asks_kept, of_each}
 use Rattle.st_laws_volume.proofs.AskSteps.{run_tells, told_all}
 use Rattle.st_laws_volume.proofs.Carried.{IsGiven, IsKept, Led, carried, given_in}
-use Rattle.st_laws_volume.proofs.CarriedEntries.{Longer, event_owned, owners_set}
+use Rattle.st_laws_volume.proofs.CarriedEntries.{Longer, event_owned}
 use Rattle.st_laws_volume.proofs.ChangeLines.{on_both}
 use Rattle.st_laws_volume.proofs.CrashedLives.{AreOver, OverHold, over_begins, over_kept}
 use Rattle.st_laws_volume.proofs.DirtyBefore.{changed_by}
@@ -96,6 +91,7 @@ use Rattle.st_laws_volume.proofs.OpenAnswers.{at_both, at_silent, block, open_le
 use Rattle.st_laws_volume.proofs.Options.{on_if, on_more, on_then}
 use Rattle.st_laws_volume.proofs.OwedEntries.{AllRows, Apart, RowAt, Untold, block_plain, never, row_moved}
 use Rattle.st_laws_volume.proofs.OwedLines as owing
+use Rattle.st_laws_volume.proofs.OwedLosses as losing
 use Rattle.st_laws_volume.proofs.OwedRows.{told_row}
 use Rattle.st_laws_volume.proofs.OwedSteps.{apart_on, fresh_on, goes_on, over_on, rows_on, told_on, Goes}
 use Rattle.st_laws_volume.proofs.QuietAnswers.{step_calm}
@@ -109,86 +105,7 @@ use Rattle.st_volume.specs.Pages.{Entry, is_by_at}
 use Rattle.st_volume.specs.Volume as volume
 use Rattle.st_volume.specs.Volume.{Pending, Volume, answered, answers_so, is_ask, is_lost_row, is_untold, run}
 use Rattle.std.specs.Prelude.{nat_le, option_and_then}
-
--- Lines that change no page of a client leave its latest entries.
-not_zero : (n : ℕ) → 1 ≤ n → (0 == n) ≡ false
-not_zero n l = go (0 == n) refl
-  where
-    go : (b : Bool) → (0 == n) ≡ b → b ≡ false
-    go true q = absurd (let z = eqb-true 0 n q in omega (arith, z, l))
-    go false q = refl
-
-fated_owners : (es : List LogEntry) (i : ℕ) (fate : Fate) → map owner_of (lines.fated es i fate) ≡ map owner_of es
-fated_owners es zero fate = refl
-fated_owners es (suc n) fate = go (slice_get es n) refl
-  where
-    go : (o : Option LogEntry) → slice_get es n ≡ o → map owner_of (lines.with_fate (suc n) fate o es) ≡ map owner_of es
-    go None q = refl
-    go (Some e) q = owners_set es n e fate q
-
-pub latest_on : (f : World) (d : ClientId) (n : ServerId) (ino : ℕ) (p : PageNo) → 1 ≤ d.0 → (xs : List Observation) (fs : List LogEntry) →
-    list_any (is_change_of d n ino p) xs ≡ false →
-    latest (lines.log_told f fs xs) d (record { server = n; ino = ino }) p ≡ latest fs d (record { server = n; ino = ino }) p
-unfolding lines.log_told lines.log_behind log.accept log.patch log.cut
-latest_on f d n ino p born [] fs q = refl
-latest_on f d n ino p born (x ∷ xs) fs q =
-    let b = parts (is_change_of d n ino p x) (list_any (is_change_of d n ino p) xs) q in
-    latest_on f d n ino p born xs (lines.log_behind f fs x) b.1 ∙ one x b.0
-  where
-    file : FileId
-    file = record { server = n; ino = ino }
-
-    parts : (a b : Bool) → (a || b) ≡ false → (a ≡ false) × (b ≡ false)
-    parts true b h = cc h
-    parts false b h = (refl, h)
-
-    one : (x : Observation) → is_change_of d n ino p x ≡ false → latest (lines.log_behind f fs x) d file p ≡ latest fs d file p
-    one (seen.Wrote i c g q2 bytes) h = latest_stays d file p fs _ h
-    one (seen.Patched i c g q2 at bytes) h = latest_stays d file p fs _ h
-    one (seen.CutAt i g q2) h =
-        latest_stays d file p fs (log.hard_cut g q2)
-        (ap (λ b. b && (same_file g file && same_page q2 p)) (not_zero d.0 born))
-    one (seen.Hardened i) h = latest_owners d file p fs (lines.fated fs i fates.Hard) (fated_owners fs i fates.Hard)
-    one (seen.Dropped i cause) h = latest_owners d file p fs (lines.fated fs i (fates.Gone cause)) (fated_owners fs i (fates.Gone cause))
-    one (seen.Sent k m) h = refl
-    one (seen.Submitted k c number what) h = refl
-    one (seen.Answered c op answer) h = refl
-    one (seen.Leased c s end) h = refl
-    one (seen.Lost c s life) h = refl
-    one (seen.Suspected s c start) h = refl
-    one (seen.Stolen s c life) h = refl
-
--- Mute lines, and lines of another client.
-mute_unchanged : (d : ClientId) (n : ServerId) (ino : ℕ) (p : PageNo) (os : List Observation) → list_all is_mute os ≡ true →
-    list_any (is_change_of d n ino p) os ≡ false
-mute_unchanged d n ino p [] q = refl
-mute_unchanged d n ino p (o ∷ os) q =
-    let b = and_true (is_mute o) (list_all is_mute os) q in
-    ap (λ k. k || list_any (is_change_of d n ino p) os) (one o b.0) ∙ mute_unchanged d n ino p os b.1
-  where
-    one : (o : Observation) → is_mute o ≡ true → is_change_of d n ino p o ≡ false
-    one (seen.Wrote i c f g bytes) z = cc z
-    one (seen.Patched i c f g at bytes) z = cc z
-    one o z = refl
-
-other_unchanged : (c d : ClientId) (n : ServerId) (ino : ℕ) (p : PageNo) → (d ≡ c → ⊥) → (os : List Observation) → list_all (mine c) os ≡ true →
-    list_any (is_change_of d n ino p) os ≡ false
-other_unchanged c d n ino p non [] q = refl
-other_unchanged c d n ino p non (o ∷ os) q =
-    let b = and_true (mine c o) (list_all (mine c) os) q in
-    ap (λ k. k || list_any (is_change_of d n ino p) os) (one o b.0) ∙ other_unchanged c d n ino p non os b.1
-  where
-    apart : (k : ClientId) (b : Bool) → same_client k c ≡ true → (same_client k d && b) ≡ false
-    apart k b z = go (same_client k d) refl
-      where
-        go : (y : Bool) → same_client k d ≡ y → (y && b) ≡ false
-        go false y = refl
-        go true y = absurd (non (sym (client_is k d y) ∙ client_is k c z))
-
-    one : (o : Observation) → mine c o ≡ true → is_change_of d n ino p o ≡ false
-    one (seen.Wrote i k f g bytes) z = apart k (is_page_at n ino p f g) z
-    one (seen.Patched i k f g at bytes) z = apart k (is_page_at n ino p f g) z
-    one o z = refl
+use Rattle.st_laws_volume.proofs.UnchangedEntries.{latest_on, mute_unchanged, other_unchanged}
 
 mute_along : (asked : ℕ → Option Ask) (w : World) (c : ClientId) (s : ServerId) (os : List Observation) (rows : List LostPage) → list_all is_mute os ≡ true →
     owed_along asked w c s rows os ≡ rows
@@ -706,7 +623,7 @@ module _ (past : List Step) (t : Traced) (e : Event) (sc : WorldTurn) (happened 
           AtEachStep (Takes is_lost_answer) (of_lines w sc.seen) y × OnSome (J sc.seen sc.world.log) (run (of_lines w sc.seen) y)
       unfolding lines.log_told
       lines_on y st j =
-          owing.lines_J past t e sc happened it held later v a right marked met wait whole r s late_failed once all (Takes is_lost_answer) one_line [] sc.seen
+          losing.lines_J past t e sc happened it held later v a right marked met wait whole r s late_failed once all (Takes is_lost_answer) one_line [] sc.seen
           w.log
           y refl silent refl l refl st j
 

@@ -52,7 +52,8 @@ use Rattle.st_laws_volume.proofs.ChangeEffects.{rising_begins}
 use Rattle.st_laws_volume.proofs.LineOrder.{Rising, all_rising, came}
 use Rattle.st_laws_volume.proofs.ReadPages.{throughout_both}
 use Rattle.st_laws_volume.proofs.RemoveGrants as sending
-use Rattle.st_laws_volume.proofs.RemoveGrants.{Sorted, step_ordered}
+use Rattle.st_laws_volume.proofs.RemoveGrants.{step_ordered}
+use Rattle.st_laws_volume.proofs.SortedOperations.{Sorted}
 use Rattle.st_laws_volume.proofs.SessionEpochs.{KnowsEpochs, knows_begin, knows_on}
 use Rattle.st_laws_volume.proofs.WriteOrder.{Mounts}
 
