@@ -10,7 +10,7 @@ ghost use Rattle.st_generate_run.specs.Turns.{IsReady, IsTurn, lines};
 use crate::Draws;
 use crate::choice::{choose, fallback_event};
 use crate::fault::WorkFault;
-use crate::text::{flush, flush_long, put_end, put_event, put_head};
+use crate::text::{LONG, flush, put_end, put_event, put_head};
 use crate::turn::{fresh, run_event};
 use st_link::Sink;
 use st_rules::Observation;
@@ -58,7 +58,10 @@ fn write_next<O: Sink>(
     ensures causes { HasCauses result (O.faults out.old) (O.faults out.new) }
 {
     put_next(alloc, world, draws, seen, text)?;
-    flush_long(out, text)?;
+    if text.len() < LONG {
+        return Ok(());
+    }
+    flush(out, text)?;
     Ok(())
 }
 

@@ -4,7 +4,6 @@ ghost use Rattle.std.specs.Io.KnownBytes.{Appends};
 ghost use Rattle.st_generate.specs.GeneratedText.{event_line, head_line};
 ghost use Rattle.st_link.specs.Causes.{HasCause};
 ghost use Rattle.st_link.specs.Prefixes.{AppendsPrefix};
-ghost use Rattle.st_generate_run.specs.Pieces.{Writes};
 
 use st_link::{Failed, Sink, put_all};
 use st_messages::Event;
@@ -13,7 +12,7 @@ use st_schedule::put_line;
 use std::alloc::AllocError;
 
 /// The text is written as soon as it has at least `LONG` bytes.
-const LONG: usize = 4096;
+pub(crate) const LONG: usize = 4096;
 
 /// Appends the line of the head.
 pub(crate) fn put_head(text: &mut Vec<u8>) -> Result<(), AllocError>
@@ -51,16 +50,4 @@ pub(crate) fn flush<O: Sink>(out: &mut O, text: &mut Vec<u8>) -> Result<(), Fail
         }
         Err(failed) => Err(failed),
     }
-}
-
-/// Writes the text, and empties it, if it has at least `LONG` bytes.
-pub(crate) fn flush_long<O: Sink>(out: &mut O, text: &mut Vec<u8>) -> Result<(), Failed>
-    ensures ok { OnOk result (Writes (O.written out.old) (O.written out.new) text.old.items text.new.items) }
-    ensures failed { OnErr result (AppendsPrefix (O.written out.old) (O.written out.new) text.old.items) }
-    ensures cause { HasCause (O.faults out.old) (O.faults out.new) result }
-{
-    if text.len() < LONG {
-        return Ok(());
-    }
-    flush(out, text)
 }
