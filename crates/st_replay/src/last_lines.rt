@@ -1,7 +1,7 @@
 // The last line of a report: of a run that went through the end, or of a line that stopped it.
 ghost use Rattle.std.specs.Prelude.{◌≡◌, ◌++◌, [], IfOk, OnOk, Ok};
 ghost use Rattle.st_rules.specs.Events as rules;
-ghost use Rattle.st_runs.specs.Replay.{Stopped, behind, last_line, line_refusal, schedule_refusal};
+ghost use Rattle.st_runs.specs.Replay.{Stopped, behind, last_line, line_refusal};
 ghost use Rattle.st_replay.specs.States.{EndsAt, Goes, IsHere, OnStop, from_here};
 ghost use Rattle.st_replay.specs.Streams.{Concludes, EndsWhole, one};
 ghost use Rattle.st_rules.specs.Report.{refused, ended};
@@ -16,43 +16,36 @@ use st_schedule::ScheduleRefusal;
 use st_world::World;
 use std::alloc::AllocError;
 
-/// Appends why a line could not be read.
-fn put_unread(text: &mut Vec<u8>, refusal: &ScheduleRefusal) -> Result<(), AllocError>
-    ensures { OnOk result (text.new.items ≡ text.old.items ++ schedule_refusal refusal.now) }
-{
-    match refusal {
-        ScheduleRefusal::Syntax(column) => {
-            put_text(text, b" Syntax")?;
-            put_field(text, *column)
-        }
-        ScheduleRefusal::Number(column) => {
-            put_text(text, b" Number")?;
-            put_field(text, *column)
-        }
-        ScheduleRefusal::LineTooLong => put_text(text, b" LineTooLong 256"),
-        ScheduleRefusal::NoHead => put_text(text, b" NoHead"),
-        ScheduleRefusal::NoEnd => put_text(text, b" NoEnd"),
-        ScheduleRefusal::AfterEnd => put_text(text, b" AfterEnd"),
-        ScheduleRefusal::TooMany => put_text(text, b" TooMany 100000"),
-        ScheduleRefusal::Config(refusal) => match refusal {
-            ConfigRefusal::Order => put_text(text, b" Config Order"),
-            ConfigRefusal::Rate => put_text(text, b" Config Rate"),
-            ConfigRefusal::TooLong => put_text(text, b" Config TooLong"),
-            ConfigRefusal::Demand => put_text(text, b" Config Demand"),
-            ConfigRefusal::Grain => put_text(text, b" Config Grain"),
-        },
-        ScheduleRefusal::Memory => Ok(()),
-    }
-}
-
 /// Appends why a line is refused.
 #[tactic(auto, unfolding(st_runs::specs::Replay::line_refusal))]
 fn put_why(text: &mut Vec<u8>, refusal: &LineRefusal) -> Result<(), AllocError>
     ensures { OnOk result (text.new.items ≡ text.old.items ++ line_refusal refusal.now) }
 {
     match refusal {
-        LineRefusal::Schedule(refusal) => put_unread(text, refusal),
         LineRefusal::World(refusal) => put_refusal(text, *refusal),
+        LineRefusal::Schedule(refusal) => match refusal {
+            ScheduleRefusal::Syntax(column) => {
+                put_text(text, b" Syntax")?;
+                put_field(text, *column)
+            }
+            ScheduleRefusal::Number(column) => {
+                put_text(text, b" Number")?;
+                put_field(text, *column)
+            }
+            ScheduleRefusal::LineTooLong => put_text(text, b" LineTooLong 256"),
+            ScheduleRefusal::NoHead => put_text(text, b" NoHead"),
+            ScheduleRefusal::NoEnd => put_text(text, b" NoEnd"),
+            ScheduleRefusal::AfterEnd => put_text(text, b" AfterEnd"),
+            ScheduleRefusal::TooMany => put_text(text, b" TooMany 100000"),
+            ScheduleRefusal::Config(refusal) => match refusal {
+                ConfigRefusal::Order => put_text(text, b" Config Order"),
+                ConfigRefusal::Rate => put_text(text, b" Config Rate"),
+                ConfigRefusal::TooLong => put_text(text, b" Config TooLong"),
+                ConfigRefusal::Demand => put_text(text, b" Config Demand"),
+                ConfigRefusal::Grain => put_text(text, b" Config Grain"),
+            },
+            ScheduleRefusal::Memory => Ok(()),
+        },
     }
 }
 

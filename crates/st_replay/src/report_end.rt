@@ -1,7 +1,7 @@
 // The end of a report, once the source has ended.
 ghost use Rattle.std.specs.Prelude.{◌≡◌, IfOk};
 ghost use Rattle.st_rules.specs.Events as rules;
-ghost use Rattle.st_runs.specs.Replay.{Replay, Whole, behind, text as text_of};
+ghost use Rattle.st_runs.specs.Replay.{behind};
 ghost use Rattle.st_replay.specs.Ends.{HasCauses, Reports};
 ghost use Rattle.st_replay.specs.States.{IsHere, from_here};
 ghost use Rattle.st_replay.specs.Streams.{one};
@@ -13,23 +13,6 @@ use crate::sinks::{flush, refuse};
 use st_link::Sink;
 use st_rules::Summary;
 use st_world::World;
-
-/// Writes the end of a whole report.
-fn send<O: Sink>(
-    out: &mut O,
-    text: &mut Vec<u8>,
-    summary: Summary,
-    world: World,
-) -> Result<(Summary, World), ReplayFault>
-    ensures exact { (p : Replay) → p.last ≡ Whole world → text.old.items ≡ text_of p → Reports result (O.written out.old) (O.written out.new) p }
-    ensures same { IfOk result (λ r. (r.0 ≡ summary) × (r.1 ≡ world)) }
-    ensures causes { HasCauses result 0 0 (O.faults out.old) (O.faults out.new) }
-{
-    match flush(out, text) {
-        Ok(()) => Ok((summary, world)),
-        Err(_) => Err(ReplayFault::Write),
-    }
-}
 
 /// Plays what is left at the end of the source, and writes the end of the report.
 pub(crate) fn finish<O: Sink>(
@@ -45,7 +28,10 @@ pub(crate) fn finish<O: Sink>(
 {
     match conclude(player, held) {
         Ok(summary) => match player.world.take() {
-            Some(world) => send(out, &mut player.text, summary, world),
+            Some(world) => match flush(out, &mut player.text) {
+                Ok(()) => Ok((summary, world)),
+                Err(_) => Err(ReplayFault::Write),
+            },
             None => unreachable!(),
         },
         Err(stop) => Err(refuse(out, &mut player.text, stop)),
