@@ -69,21 +69,16 @@ fn end_status(ended: Result<(), NodeFault>) -> u8
     }
 }
 
-fn unwritten(status: u8) -> u8
-    ensures { result ≡ ends.unwritten status }
-{
-    if status == 1 { 4 } else { status }
-}
-
 /// Writes the text of an end, and returns the status.
 fn tell_text<E: Sink>(err: &mut E, text: &[u8], ended: Result<(), NodeFault>) -> u8
     requires text { text.now ≡ ends.end_text ended }
     requires some { 1 ≤ ends.end_status ended }
     ensures { IsTold ended result (E.written err.old) (E.written err.new) (E.faults err.old) (E.faults err.new) }
 {
+    let status = end_status(ended);
     match put_all(err, text) {
-        Ok(()) => end_status(ended),
-        Err(_) => unwritten(end_status(ended)),
+        Ok(()) => status,
+        Err(_) => { if status == 1 { 4 } else { status } }
     }
 }
 
