@@ -3,9 +3,9 @@ ghost use Rattle.std.specs.Prelude.{◌≡◌, ◌++◌, IfOk, IfErr, OnOk, OnEr
 ghost use Rattle.st_embed.specs.Events as events;
 ghost use Rattle.st_host_frames.specs.Results.{NotPut, Puts};
 
-use st_base::{ClientId, FileId, Life, PageNo, ServerId, Stamp};
+use st_base::{FileId, PageNo};
 use st_host_frames::HostFault;
-use st_messages::{Body, Header, Note, Output};
+use st_messages::{Body, Note, Output};
 use std::alloc::{AllocError, Global};
 
 /// What a step tells beside its frames. `event` says which of the other fields are told; these have
@@ -68,66 +68,33 @@ fn of_page(event: u32, file: FileId, page: PageNo) -> TankEvent
     told
 }
 
-/// A client is suspected from this moment on.
-fn suspected(client: ClientId, start: Stamp) -> TankEvent
-    ensures { result ≡ record (events.plain 1) { client = client.0; moment = start.0 } }
-{
-    let mut told = plain(1);
-    told.client = client.0;
-    told.moment = start.0;
-    told
-}
-
-/// A lease was begun or renewed.
-fn leased(server: ServerId, end: Stamp) -> TankEvent
-    ensures { result ≡ record (events.plain 6) { server = server.0; moment = end.0 } }
-{
-    let mut told = plain(6);
-    told.server = server.0;
-    told.moment = end.0;
-    told
-}
-
-/// A lease was lost with this life.
-fn lost(server: ServerId, life: Life) -> TankEvent
-    ensures { result ≡ record (events.plain 7) { server = server.0; life = life.0 } }
-{
-    let mut told = plain(7);
-    told.server = server.0;
-    told.life = life.0;
-    told
-}
-
 /// The event of a note.
 fn event_of_note(note: &Note) -> Option<TankEvent>
     ensures { result ≡ events.event_of_note note.now }
 {
     match note {
-        Note::Suspected { client, start } => Some(suspected(*client, *start)),
-        Note::Stolen { client, life } => Some(of_life(2, client.0, life.0)),
-        Note::CutDone { file, from } => Some(of_page(3, *file, *from)),
-        Note::Leased { server, end } => Some(leased(*server, *end)),
-        Note::Lost { server, life } => Some(lost(*server, *life)),
-        Note::Accepted { file, page, .. } => Some(of_page(8, *file, *page)),
-        Note::Patched { file, page, .. } => Some(of_page(8, *file, *page)),
-    }
-}
-
-/// The event of a message that a server sends, if it is one.
-fn event_of_body(header: &Header, body: &Body) -> Option<TankEvent>
-    ensures { result ≡ events.event_of_body header.now body.now }
-{
-    match body {
-        Body::Granted { ino, g, mode } => {
-            let mut told = plain(4);
-            told.client = header.to;
-            told.ino = *ino;
-            told.grant = g.0;
-            told.mode = u32::from(mode.number());
+        Note::Suspected { client, start } => {
+            let mut told = plain(1);
+            told.client = client.0;
+            told.moment = start.0;
             Some(told)
         }
-        Body::Welcome => Some(of_life(5, header.to, header.life)),
-        _ => None,
+        Note::Stolen { client, life } => Some(of_life(2, client.0, life.0)),
+        Note::CutDone { file, from } => Some(of_page(3, *file, *from)),
+        Note::Leased { server, end } => {
+            let mut told = plain(6);
+            told.server = server.0;
+            told.moment = end.0;
+            Some(told)
+        }
+        Note::Lost { server, life } => {
+            let mut told = plain(7);
+            told.server = server.0;
+            told.life = life.0;
+            Some(told)
+        }
+        Note::Accepted { file, page, .. } => Some(of_page(8, *file, *page)),
+        Note::Patched { file, page, .. } => Some(of_page(8, *file, *page)),
     }
 }
 
@@ -137,7 +104,18 @@ fn event_of(output: &Output) -> Option<TankEvent>
 {
     match output {
         Output::Note(note) => event_of_note(note),
-        Output::Send(message) => event_of_body(&message.header, &message.body),
+        Output::Send(message) => match &message.body {
+            Body::Granted { ino, g, mode } => {
+                let mut told = plain(4);
+                told.client = message.header.to;
+                told.ino = *ino;
+                told.grant = g.0;
+                told.mode = u32::from(mode.number());
+                Some(told)
+            }
+            Body::Welcome => Some(of_life(5, message.header.to, message.header.life)),
+            _ => None,
+        },
         _ => None,
     }
 }
