@@ -1,11 +1,11 @@
 // What the calls at a client do to the client that the handle holds.
 ghost use Rattle.std.specs.Prelude.{◌≡◌, ◌≢◌, Some};
-ghost use Rattle.tank_c.specs.Calls.{ClientSteps, NoClientStep, ClientTakes, association_of, client_told, settings_of};
+ghost use Rattle.tank_c.specs.Calls.{ClientSteps, NoClientStep, ClientTakes, client_told, settings_of};
 ghost use Rattle.tank_c.specs.Codes.{DONE, NO_MEMORY};
 ghost use Rattle.tank_c.specs.Codes as codes;
 
 use crate::codes::{NO_MEMORY, step_code, step_place};
-use st_embed::{Config, EmbeddedClient, Phase, ServerId, Stamp};
+use st_embed::{Config, EmbeddedClient, Phase, Stamp};
 
 /// The settings of a world, in ticks except for `num` and `den`.
 #[repr(C)]
@@ -77,7 +77,7 @@ pub(crate) fn flag(yes: bool) -> u32
 }
 
 /// The number of a phase.
-fn phase_code(phase: Option<Phase>) -> u32
+pub(crate) fn phase_code(phase: Option<Phase>) -> u32
     ensures { result ≡ codes.of_phase_held phase }
 {
     match phase {
@@ -91,7 +91,7 @@ fn phase_code(phase: Option<Phase>) -> u32
 }
 
 /// The end of a lease.
-fn end_of(end: Option<Stamp>) -> u64
+pub(crate) fn end_of(end: Option<Stamp>) -> u64
     ensures { result ≡ codes.end_held end }
 {
     match end {
@@ -138,18 +138,5 @@ pub(crate) fn take_client(client: &mut EmbeddedClient, out: &mut [u8], count: &m
             *count = 0;
             NO_MEMORY
         }
-    }
-}
-
-/// What a client has at a server.
-pub(crate) fn association_at(client: &EmbeddedClient, server: u16, now: u64) -> TankAssociation
-    ensures { result ≡ association_of client.now server now }
-{
-    let server = ServerId(server);
-    TankAssociation {
-        life: client.life(server).0,
-        lease_end: end_of(client.lease_end(server)),
-        phase: phase_code(client.phase(server, Stamp(now))),
-        dirty: flag(client.has_dirty(server)),
     }
 }

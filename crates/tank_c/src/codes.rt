@@ -17,32 +17,6 @@ pub(crate) const NO_MEMORY: u32 = 3;
 
 pub(crate) const SHORT_ROOM: u32 = 10;
 
-/// The number of a message's refusal.
-fn codec_code(refusal: CodecRefusal) -> u32
-    ensures { result ≡ codes.of_codec refusal }
-{
-    match refusal {
-        CodecRefusal::Short => 18,
-        CodecRefusal::Long => 19,
-        CodecRefusal::Kind => 20,
-        CodecRefusal::Value(_) => 21,
-        CodecRefusal::Version => 22,
-        CodecRefusal::FrameTooLong(_) => 23,
-        CodecRefusal::Memory => 3,
-    }
-}
-
-/// The byte of the message, or the length, that it tells; 0 if it tells none.
-fn codec_place(refusal: CodecRefusal) -> u64
-    ensures { result ≡ codes.place_of_codec refusal }
-{
-    match refusal {
-        CodecRefusal::Value(at) => at,
-        CodecRefusal::FrameTooLong(length) => u64::from(length),
-        _ => 0,
-    }
-}
-
 /// The number of a frame's fault.
 fn frame_code(fault: FrameFault) -> u32
     ensures { result ≡ codes.of_frame fault }
@@ -50,17 +24,13 @@ fn frame_code(fault: FrameFault) -> u32
     match fault {
         FrameFault::Cut => 16,
         FrameFault::Extra => 17,
-        FrameFault::Refused(refusal) => codec_code(refusal),
-    }
-}
-
-/// The place that a frame's fault tells.
-fn frame_place(fault: FrameFault) -> u64
-    ensures { result ≡ codes.place_of_frame fault }
-{
-    match fault {
-        FrameFault::Cut | FrameFault::Extra => 0,
-        FrameFault::Refused(refusal) => codec_place(refusal),
+        FrameFault::Refused(CodecRefusal::Short) => 18,
+        FrameFault::Refused(CodecRefusal::Long) => 19,
+        FrameFault::Refused(CodecRefusal::Kind) => 20,
+        FrameFault::Refused(CodecRefusal::Value(_)) => 21,
+        FrameFault::Refused(CodecRefusal::Version) => 22,
+        FrameFault::Refused(CodecRefusal::FrameTooLong(_)) => 23,
+        FrameFault::Refused(CodecRefusal::Memory) => NO_MEMORY,
     }
 }
 
@@ -80,12 +50,15 @@ pub(crate) fn step_code(refusal: StepRefusal) -> u32
     }
 }
 
-/// The place that a step's refusal tells.
+/// The place that a step's refusal tells: the byte of the message, or the length, if it tells one.
 pub(crate) fn step_place(refusal: StepRefusal) -> u64
     ensures { result ≡ codes.place_of_step refusal }
 {
     match refusal {
-        StepRefusal::Frame(fault) => frame_place(fault),
+        StepRefusal::Frame(FrameFault::Refused(CodecRefusal::Value(at))) => at,
+        StepRefusal::Frame(FrameFault::Refused(CodecRefusal::FrameTooLong(length))) => {
+            u64::from(length)
+        }
         _ => 0,
     }
 }

@@ -27,21 +27,18 @@ mod codes;
 mod counts;
 mod due;
 mod events;
-mod frame_calls;
 mod server_calls;
 pub mod server_slot;
 
 use crate::box_pointer::BoxPointer;
-use crate::client_calls::{association_at, config_of, step_client, take_client};
+use crate::client_calls::{config_of, end_of, flag, phase_code, step_client, take_client};
 use crate::client_slot::ClientSlot;
 use crate::codes::{
     ABSENT, BUSY, DONE, NO_MEMORY, host_code, host_room, open_code, server_open_code,
     server_open_place,
 };
-use crate::counts::{count_client, count_server, owes};
 use crate::due::{due_client, due_server};
 use crate::events::{client_events, server_events};
-use crate::frame_calls::{no_answer, no_command, no_front};
 use crate::server_calls::{record_server, step_server, take_server};
 use crate::server_slot::ServerSlot;
 pub use client_calls::{TankAssociation, TankClientStepped, TankSettings};
@@ -49,9 +46,9 @@ pub use counts::{TankClientCounted, TankServerCounted};
 pub use server_calls::{TankRecord, TankServerStepped, TankShape};
 use st_embed::{ClientId, EmbeddedClient, EmbeddedServer, ServerId, Shape, Stamp, TankEvent};
 use st_host_frames::{
-    TankAnswer, TankAsk, TankCommand, TankDone, TankEntry, TankFrame, TankLostPage, decode_answer,
-    decode_command, decode_entries, decode_lost_pages, encode_ask, encode_done, encode_tick,
-    front_of,
+    TankAnswer, TankAsk, TankCommand, TankDone, TankEntry, TankFrame, TankLostPage, TankTag,
+    decode_answer, decode_command, decode_entries, decode_lost_pages, encode_ask, encode_done,
+    encode_tick, front_of,
 };
 use std::alloc::Global;
 use std::mem;
@@ -171,7 +168,13 @@ pub extern "C" fn tank_client_at(
     let held = mem::replace(&mut client.slot, ClientSlot::empty())
         .into_loose(alloc)
         .into_box();
-    *association = association_at(&held, server, now);
+    let server = ServerId(server);
+    *association = TankAssociation {
+        life: held.life(server).0,
+        lease_end: end_of(held.lease_end(server)),
+        phase: phase_code(held.phase(server, Stamp(now))),
+        dirty: flag(held.has_dirty(server)),
+    };
     client.slot = ClientSlot::of(BoxPointer::of(held));
     DONE
 }
@@ -194,7 +197,15 @@ pub extern "C" fn tank_client_counts(
     let held = mem::replace(&mut client.slot, ClientSlot::empty())
         .into_loose(alloc)
         .into_box();
-    *counted = count_client(&held, server);
+    let counts = held.counts(ServerId(server));
+    *counted = TankClientCounted {
+        locks: counts.locks,
+        waits: counts.waits,
+        dirty: counts.dirty,
+        clean: counts.clean,
+        commands: counts.commands,
+        pending: counts.pending,
+    };
     client.slot = ClientSlot::of(BoxPointer::of(held));
     DONE
 }
@@ -219,7 +230,7 @@ pub extern "C" fn tank_client_owes(
     let held = mem::replace(&mut client.slot, ClientSlot::empty())
         .into_loose(alloc)
         .into_box();
-    *is_owed = owes(&held, server, ino);
+    *is_owed = flag(held.is_awaited(ServerId(server), ino));
     client.slot = ClientSlot::of(BoxPointer::of(held));
     DONE
 }
@@ -466,7 +477,18 @@ pub extern "C" fn tank_server_counts(
     let held = mem::replace(&mut server.slot, ServerSlot::empty())
         .into_loose(alloc)
         .into_box();
-    *counted = count_server(&held);
+    let counts = held.counts();
+    *counted = TankServerCounted {
+        sessions: counts.sessions,
+        locks: counts.locks,
+        waits: counts.waits,
+        suspects: counts.suspects,
+        names: counts.names,
+        mapped: counts.mapped,
+        free: counts.free,
+        journal: held.gate(),
+        journal_size: held.size(),
+    };
     server.slot = ServerSlot::of(BoxPointer::of(held));
     DONE
 }
@@ -541,7 +563,13 @@ pub extern "C" fn tank_frame_at(bytes: &[u8], frame: &mut TankFrame) -> u32
             DONE
         }
         Err(fault) => {
-            *frame = no_front();
+            *frame = TankFrame {
+                size: 0,
+                version: 0,
+                kind: 0,
+                from: 0,
+                to: 0,
+            };
             host_code(fault)
         }
     }
@@ -640,7 +668,15 @@ pub extern "C" fn tank_decode_answer(
             DONE
         }
         Err(fault) => {
-            *answer = no_answer();
+            *answer = TankAnswer {
+                op: 0,
+                first: 0,
+                second: 0,
+                page: 0,
+                rows: 0,
+                answer: 0,
+                client: 0,
+            };
             host_code(fault)
         }
     }
@@ -712,7 +748,20 @@ pub extern "C" fn tank_decode_command(
             DONE
         }
         Err(fault) => {
-            *command = no_command();
+            *command = TankCommand {
+                number: 0,
+                tag: TankTag {
+                    birth: 0,
+                    ino: 0,
+                    page: 0,
+                    server: 0,
+                },
+                page: 0,
+                command: 0,
+                block: 0,
+                disk: 0,
+                client: 0,
+            };
             host_code(fault)
         }
     }
