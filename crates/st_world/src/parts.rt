@@ -6,7 +6,6 @@ ghost use Rattle.st_rules.specs.Events as events;
 ghost use Rattle.st_rules.specs.Safety.{IsHead, is_event};
 ghost use Rattle.st_rules.specs.World as rules;
 ghost use Rattle.st_rules.specs.World.{fresh_world};
-ghost use Rattle.st_world_parts.specs.Pieces as pieces;
 ghost use Rattle.st_world.specs.Counters.{CountersHaveRoom};
 ghost use Rattle.st_world.specs.Heads.{HasCounts};
 ghost use Rattle.st_world.specs.Steps.{StepsAs};
@@ -32,7 +31,7 @@ use std::mem;
 /// when memory runs out. It takes no event then.
 #[derive(Drop)]
 pub(crate) struct WorldParts {
-    machine: WorldTurn,
+    pub(crate) machine: WorldTurn,
     spare: WorldTurn,
     pub(crate) broken: bool,
 }
@@ -179,27 +178,6 @@ impl WorldParts {
         self.machine.clock_of(node)
     }
 
-    /// Returns how many messages were sent.
-    pub(crate) fn message_count(&self) -> u64
-        ensures { result ≡ length self.now.net.messages }
-    {
-        self.machine.net.count()
-    }
-
-    /// Returns how many commands were submitted.
-    pub(crate) fn command_count(&self) -> u64
-        ensures { result ≡ length self.now.commands }
-    {
-        self.machine.commands.count()
-    }
-
-    /// The spelling of the message of a number, from 1.
-    pub(crate) fn sent(&self, k: u64) -> Option<&[u8]>
-        ensures { option_map (λ b. b.now) result ≡ option_map pieces.spelling_sent (rules.message_of self.now k) }
-    {
-        self.machine.net.spelled(k)
-    }
-
     /// Returns the counts of the run so far.
     pub(crate) fn summary(&self) -> Summary
         ensures { result ≡ events.summary self.now }
@@ -223,12 +201,5 @@ impl WorldParts {
         ensures { rules.node_of self.now server ≡ Some result.now }
     {
         self.machine.server_node(server)
-    }
-
-    /// Returns the log.
-    pub(crate) fn log(&self) -> &FlatLog
-        ensures { result.now ≡ self.now.log }
-    {
-        &self.machine.log
     }
 }

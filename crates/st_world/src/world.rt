@@ -139,21 +139,21 @@ impl World {
     pub fn message_count(&self) -> u64
         ensures { result ≡ length self.now.net.messages }
     {
-        self.of.message_count()
+        self.of.machine.net.count()
     }
 
     /// Returns how many commands were submitted.
     pub fn command_count(&self) -> u64
         ensures { result ≡ length self.now.commands }
     {
-        self.of.command_count()
+        self.of.machine.commands.count()
     }
 
     /// The spelling of the message of a number, from 1.
     pub fn sent(&self, k: u64) -> Option<&[u8]>
         ensures { option_map (λ b. b.now) result ≡ option_map pieces.spelling_sent (rules.message_of self.now k) }
     {
-        self.of.sent(k)
+        self.of.machine.net.spelled(k)
     }
 
     /// Returns the counts of the run so far.
@@ -185,6 +185,6 @@ impl World {
     pub fn log(&self) -> &FlatLog
         ensures { result.now ≡ self.now.log }
     {
-        self.of.log()
+        &self.of.machine.log
     }
 }
