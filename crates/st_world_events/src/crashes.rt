@@ -91,17 +91,6 @@ fn start_node(servers: &mut Vec<ServerNode>, i: usize, now: Stamp) -> Result<(),
 }
 
 impl WorldTurn {
-    /// A server crashes.
-    #[tactic(auto, unfolding(st_rules::specs::Events::crashes_server))]
-    pub(crate) fn crash_server(&mut self, server: ServerId)
-        ensures { self.new ≡ events.world_turn (events.crashes_server self.old.world server (world.node_of self.old.world server)) self.old.seen }
-    {
-        match index_of(server.0, self.servers.len()) {
-            None => {}
-            Some(i) => self.servers[i].crash(),
-        }
-    }
-
     /// A server starts.
     #[tactic(auto, unfolding(st_rules::specs::Events::starts_server))]
     pub(crate) fn start_server(&mut self, server: ServerId) -> Result<(), AllocError>

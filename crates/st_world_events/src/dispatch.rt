@@ -5,6 +5,7 @@ ghost use Rattle.st_rules.specs.Events as events;
 ghost use Rattle.st_rules.specs.World as world;
 ghost use Rattle.st_world_events.specs.Readiness.{IsMet, IsReady};
 
+use crate::index::index_of;
 use crate::turn::WorldTurn;
 use st_base::{ClientId, NodeId, ServerId};
 use st_messages::Event;
@@ -14,17 +15,20 @@ use std::mem;
 
 impl WorldTurn {
     /// A node crashes.
-    #[tactic(auto, unfolding(st_rules::specs::Events::crashes))]
+    #[tactic(auto, unfolding(st_rules::specs::Events::crashes, st_rules::specs::Events::crashes_server))]
     fn crash(&mut self, node: NodeId) -> Result<(), AllocError>
         requires { self.old.seen ≡ [] }
         ensures { OnOk result (self.new ≡ events.crashes self.old.world node) }
     {
         match node {
             NodeId::Client(client) => self.crash_client(client),
-            NodeId::Server(server) => {
-                self.crash_server(server);
-                Ok(())
-            }
+            NodeId::Server(server) => match index_of(server.0, self.servers.len()) {
+                None => Ok(()),
+                Some(i) => {
+                    self.servers[i].crash();
+                    Ok(())
+                }
+            },
         }
     }
 

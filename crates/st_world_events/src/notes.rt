@@ -1,7 +1,7 @@
 // Notes of nodes, and the outputs of a step.
 ghost use Rattle.std.specs.Prelude.{◌≡◌, ◌≤◌, ◌<◌, ◌+◌, ◌^◌, ◌-◌, true, OnOk, length};
 ghost use Rattle.std.specs.List.{list_all};
-ghost use Rattle.st_client.specs.Inputs.{is_noted, is_sent};
+ghost use Rattle.st_client.specs.Inputs.{is_sent};
 ghost use Rattle.st_rules.specs.ClientState.{ClientState};
 ghost use Rattle.st_rules.specs.Events as events;
 ghost use Rattle.st_server.specs.Invariants as sound;
@@ -93,72 +93,8 @@ impl WorldTurn {
         })
     }
 
-    /// A note of a client, whose leases had these ends before its step.
-    #[tactic(auto, unfolding(st_rules::specs::Events::client_notes))]
-    fn client_note(
-        &mut self,
-        client: ClientId,
-        ends: &LeaseEnds,
-        note: Note,
-    ) -> Result<(), AllocError>
-        requires { is_noted note ≡ true }
-        ensures exact { (before : ClientState) → HasEnds before ends.now → OnOk result (self.new ≡ events.client_notes self.old client before note) }
-        ensures kept { Keeps self.old self.new }
-    {
-        match note {
-            Note::Leased { server, end } => self.observe(Observation::Leased {
-                client,
-                server,
-                end,
-            }),
-            Note::Lost { server, life } => self.lose(client, ends, server, life),
-            Note::Accepted { file, page, bytes } => self.accept(client, file, page, bytes),
-            Note::Patched {
-                file,
-                page,
-                at,
-                bytes,
-            } => self.patch(client, file, page, at, bytes),
-            Note::Suspected { .. } => Ok(()),
-            Note::Stolen { .. } => Ok(()),
-            Note::CutDone { .. } => Ok(()),
-        }
-    }
-
-    /// A note of a server: a theft is counted, and a cut that was done joins the log.
-    #[tactic(auto, unfolding(st_rules::specs::Events::server_notes, st_rules::specs::Events::cuts))]
-    fn server_note(&mut self, server: ServerId, note: Note) -> Result<(), AllocError>
-        requires { self.old.world.tally.stolen < 2 ^ 64 - 1 }
-        ensures exact { OnOk result (self.new ≡ events.server_notes self.old server note) }
-        ensures kept { Keeps self.old self.new }
-    {
-        match note {
-            Note::Suspected { client, start } => self.observe(Observation::Suspected {
-                server,
-                client,
-                start,
-            }),
-            Note::Stolen { client, life } => {
-                self.stolen += 1;
-                self.observe(Observation::Stolen {
-                    server,
-                    client,
-                    life,
-                })
-            }
-            Note::CutDone { file, from } => {
-                let index = self.log.cut(file, from)?;
-                self.observe(Observation::CutAt { index, file, from })
-            }
-            Note::Leased { .. } => Ok(()),
-            Note::Lost { .. } => Ok(()),
-            Note::Accepted { .. } => Ok(()),
-            Note::Patched { .. } => Ok(()),
-        }
-    }
-
     /// An output of a client, whose leases had these ends before its step.
-    #[tactic(auto, unfolding(st_rules::specs::Events::client_says))]
+    #[tactic(auto, unfolding(st_rules::specs::Events::client_says, st_rules::specs::Events::client_notes))]
     pub(crate) fn client_say(
         &mut self,
         client: ClientId,
@@ -176,12 +112,29 @@ impl WorldTurn {
             Output::Send(message) => self.send(message),
             Output::Submit { command, at, what } => self.submit(client, command, at, what),
             Output::Answer { op, answer } => self.answer(client, op, answer),
-            Output::Note(note) => self.client_note(client, ends, note),
+            Output::Note(note) => match note {
+                Note::Leased { server, end } => self.observe(Observation::Leased {
+                    client,
+                    server,
+                    end,
+                }),
+                Note::Lost { server, life } => self.lose(client, ends, server, life),
+                Note::Accepted { file, page, bytes } => self.accept(client, file, page, bytes),
+                Note::Patched {
+                    file,
+                    page,
+                    at,
+                    bytes,
+                } => self.patch(client, file, page, at, bytes),
+                Note::Suspected { .. } => Ok(()),
+                Note::Stolen { .. } => Ok(()),
+                Note::CutDone { .. } => Ok(()),
+            },
         }
     }
 
-    /// An output of a server.
-    #[tactic(auto, unfolding(st_rules::specs::Events::server_says))]
+    /// An output of a server. A theft is counted, and a cut that was done joins the log.
+    #[tactic(auto, unfolding(st_rules::specs::Events::server_says, st_rules::specs::Events::server_notes, st_rules::specs::Events::cuts))]
     pub(crate) fn server_say(&mut self, server: ServerId, output: Output) -> Result<(), AllocError>
         requires stolen { self.old.world.tally.stolen < 2 ^ 64 - 1 }
         requires sent { sound.is_sent output ≡ true }
@@ -190,7 +143,29 @@ impl WorldTurn {
     {
         match output {
             Output::Send(message) => self.send(message),
-            Output::Note(note) => self.server_note(server, note),
+            Output::Note(note) => match note {
+                Note::Suspected { client, start } => self.observe(Observation::Suspected {
+                    server,
+                    client,
+                    start,
+                }),
+                Note::Stolen { client, life } => {
+                    self.stolen += 1;
+                    self.observe(Observation::Stolen {
+                        server,
+                        client,
+                        life,
+                    })
+                }
+                Note::CutDone { file, from } => {
+                    let index = self.log.cut(file, from)?;
+                    self.observe(Observation::CutAt { index, file, from })
+                }
+                Note::Leased { .. } => Ok(()),
+                Note::Lost { .. } => Ok(()),
+                Note::Accepted { .. } => Ok(()),
+                Note::Patched { .. } => Ok(()),
+            },
             Output::Submit { .. } => Ok(()),
             Output::Answer { .. } => Ok(()),
         }
