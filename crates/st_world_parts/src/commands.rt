@@ -1,5 +1,5 @@
 // The commands, and the calls on them.
-ghost use Rattle.std.specs.Prelude.{◌≡◌, ◌<◌, ◌^◌, length, slice_get, IfOk, OnOk, OnErr};
+ghost use Rattle.std.specs.Prelude.{◌≡◌, ◌<◌, ◌^◌, length, IfOk, OnOk, OnErr};
 ghost use Rattle.std.specs.List.{list_any, zip};
 ghost use Rattle.std.specs.Option.{option_map};
 ghost use Rattle.st_world_parts.specs.Commands as issued;
@@ -73,16 +73,6 @@ fn report(disks: &mut Disks, outstanding: &mut Vec<usize>, k: u64, ok: bool)
     }
 }
 
-/// The command of the row at this index, if there is one.
-fn row_at(issued: &[IssuedRow], index: usize) -> Option<IssuedCommand>
-    ensures { result ≡ slice_get issued.now index }
-{
-    match issued.get(index) {
-        None => None,
-        Some(row) => Some(row.command()),
-    }
-}
-
 impl Commands {
     /// Makes this number of disks with this number of blocks each. No command was issued. It does
     /// not allocate.
@@ -112,7 +102,10 @@ impl Commands {
         if k == 0 {
             return None;
         }
-        row_at(&self.issued, (k - 1) as usize)
+        match self.issued.get((k - 1) as usize) {
+            None => None,
+            Some(row) => Some(row.command()),
+        }
     }
 
     /// Returns the state of the command of this number, if there is one.

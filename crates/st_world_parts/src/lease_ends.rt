@@ -1,7 +1,6 @@
 // The entries of the lives whose lease ends an advance reaches.
 ghost use Rattle.std.specs.Prelude.{◌≡◌};
 ghost use Rattle.st_model.specs.Walks.{marked_fate};
-ghost use Rattle.st_rules.specs.Events as events;
 ghost use Rattle.st_rules.specs.FlatLog as flat_log;
 ghost use Rattle.st_world_parts.specs.LifeEnds.{ended_by, ends};
 
@@ -16,36 +15,24 @@ pub struct Ending<'a> {
     pub lives: &'a [LeaseLife],
 }
 
-fn is_of_life(life: &LeaseLife, of: LogOwner) -> bool
-    ensures { result ≡ flat_log.is_of_life life.now.client life.now.server life.now.life of }
-{
-    of.client.0 == life.client.0 && (of.file.server.0 == life.server.0 && of.life.0 == life.life.0)
-}
-
 #[tactic(auto, unfolding(st_rules::specs::Events::cause_at_end))]
-fn cause_at_end(commands: &Commands, life: &LeaseLife, of: LogOwner) -> Cause
-    ensures { result ≡ events.cause_at_end commands.now.commands life.now of.file of.page }
-{
-    if life.crashed {
-        Cause::Crash
-    } else {
-        Cause::Failed(commands.last_write(LogOwner {
-            client: life.client,
-            life: life.life,
-            file: of.file,
-            page: of.page,
-        }))
-    }
-}
-
 fn ended_by(commands: &Commands, life: &LeaseLife, of: LogOwner) -> Fate
     ensures { result ≡ ended_by commands.now.commands life.now of }
 {
-    if is_of_life(life, of) {
-        Fate::Gone(cause_at_end(commands, life, of))
-    } else {
-        Fate::Pending
+    if !(of.client.0 == life.client.0
+        && (of.file.server.0 == life.server.0 && of.life.0 == life.life.0))
+    {
+        return Fate::Pending;
     }
+    if life.crashed {
+        return Fate::Gone(Cause::Crash);
+    }
+    Fate::Gone(Cause::Failed(commands.last_write(LogOwner {
+        client: life.client,
+        life: life.life,
+        file: of.file,
+        page: of.page,
+    })))
 }
 
 fn is_pending(fate: Fate) -> bool

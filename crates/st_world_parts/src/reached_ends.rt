@@ -1,7 +1,7 @@
 // Lives whose lease ends are reached, or are still ahead.
 ghost use Rattle.std.specs.Prelude.{◌≡◌, ◌++◌, ◌∷◌, [], ◌+◌, ◌≤◌, ◌^◌, true, filter, if◌then◌else◌, length, unwrap_or, OnOk, OnErr};
 ghost use Rattle.std.specs.List.{list_all};
-ghost use Rattle.st_world_parts.specs.Clocks.{clock_at, ends_after, is_ahead, is_at_most, is_reached, is_step, step_at};
+ghost use Rattle.st_world_parts.specs.Clocks.{clock_at, is_ahead, is_at_most, is_reached, is_step, step_at};
 ghost use Rattle.st_rules.specs.Admissible.{reaches};
 
 use crate::clocks::clock_of;
@@ -9,20 +9,14 @@ use st_base::Stamp;
 use st_rules::LeaseLife;
 use std::alloc::AllocError;
 
-fn ends_after(clock: Stamp, end: Option<Stamp>) -> bool
-    ensures { result ≡ ends_after clock end }
-{
-    match end {
-        None => false,
-        Some(end) => clock.0 < end.0,
-    }
-}
-
 /// Whether a life's lease end is above its client's clock.
 pub fn is_ahead(clocks: &[Stamp], life: &LeaseLife) -> bool
     ensures { result ≡ is_ahead clocks.now life.now }
 {
-    ends_after(clock_of(clocks, life.client.0 as usize), life.end)
+    match life.end {
+        None => false,
+        Some(end) => clock_of(clocks, life.client.0 as usize).0 < end.0,
+    }
 }
 
 /// Whether a clock reaches a lease end by this increment. A clock is at most 2^62, and an increment
