@@ -1,5 +1,5 @@
 // When a pending operation is answered, or a page is fetched for it.
-ghost use Rattle.std.specs.Prelude.{◌≡◌, ◌∷◌, [], Some, not, slice_get};
+ghost use Rattle.std.specs.Prelude.{◌≡◌, Some, not, slice_get};
 ghost use Rattle.std.specs.List.{flat_map};
 ghost use Rattle.std.specs.Option.{option_to_list};
 ghost use Rattle.st_client_due.specs.ClientDue as due;
@@ -25,18 +25,13 @@ fn may_write(t: &TurnView<'_>, session: &Session, file: FileId, page: PageNo) ->
     holds(session, Mode::X, file) && t.is_mapped(file.ino, page)
 }
 
-/// Whether the page is fetched: it is known as mapped, and is not being read.
-fn is_fetched(t: &TurnView<'_>, file: FileId, page: PageNo) -> bool
-    ensures { result ≡ due.is_fetched t.now file page }
-{
-    t.is_mapped(file.ino, page) && !t.is_being_read(file.ino, page)
-}
-
 /// Whether the page is patched or fetched.
 fn is_patched(t: &TurnView<'_>, session: &Session, file: FileId, page: PageNo) -> bool
     ensures { result ≡ due.is_patched t.now session.now.session file page }
 {
-    may_write(t, session, file, page) && (t.is_cached(file.ino, page) || is_fetched(t, file, page))
+    may_write(t, session, file, page)
+        && (t.is_cached(file.ino, page)
+            || (t.is_mapped(file.ino, page) && !t.is_being_read(file.ino, page)))
 }
 
 /// Whether a page of which this is known is read as zeros, or fetched.
@@ -57,10 +52,13 @@ fn is_read(t: &TurnView<'_>, session: &Session, file: FileId, page: PageNo) -> b
         && (t.is_cached(file.ino, page) || is_found(t, file, page, t.known(file.ino, page)))
 }
 
-/// Whether an ask on a file that is open is served.
-fn is_served_open(t: &TurnView<'_>, session: &Session, ask: &Ask) -> bool
-    ensures { result ≡ due.is_served_open t.now session.now.session ask.now }
+/// Whether an ask is served while the lease permits it.
+fn is_served(t: &TurnView<'_>, session: &Session, ask: &Ask) -> bool
+    ensures { result ≡ due.is_served t.now.operations t.now session.now.session ask.now }
 {
+    if !is_open_file(t.operations(), t.server(), session, file_of(ask)) {
+        return false;
+    }
     match ask {
         Ask::Write(file, page, _) => may_write(t, session, *file, *page),
         Ask::Patch(file, page, _, _) => is_patched(t, session, *file, *page),
@@ -69,60 +67,34 @@ fn is_served_open(t: &TurnView<'_>, session: &Session, ask: &Ask) -> bool
     }
 }
 
-/// Whether an ask is served while the lease permits it.
-fn is_served(t: &TurnView<'_>, session: &Session, ask: &Ask) -> bool
-    ensures { result ≡ due.is_served t.now.operations t.now session.now.session ask.now }
-{
-    is_open_file(t.operations(), t.server(), session, file_of(ask))
-        && is_served_open(t, session, ask)
-}
-
-/// The first moment before quiesce.
+/// When the operation is served: before quiesce.
 #[tactic(auto, using(crate::proofs::SpanMoments::min_sum, crate::proofs::SpanMoments::never_before))]
-fn before_quiesce(t: &TurnView<'_>, session: &Session, from: Stamp) -> Option<u64>
-    ensures { result ≡ first_readable from (until (due.quiesce_at t.now.config session.now.session.lease) ∷ []) }
-{
-    if session.is_condemned() {
-        None
-    } else {
-        let config = t.config();
-        before(from, session.date(), config.quiesce.min(config.flush))
-    }
-}
-
-/// The first moment in quiesce or later.
-#[tactic(auto, using(crate::proofs::SpanMoments::min_sum))]
-fn since_quiesce(t: &TurnView<'_>, session: &Session, from: Stamp) -> Option<u64>
-    ensures { result ≡ first_readable from (from_on (due.quiesce_at t.now.config session.now.session.lease) ∷ []) }
-{
-    if session.is_condemned() {
-        at_once(from)
-    } else {
-        let config = t.config();
-        since(from, session.date(), config.quiesce.min(config.flush))
-    }
-}
-
-/// When the operation is served.
 fn served_due(t: &TurnView<'_>, session: &Session, o: &Operation, from: Stamp) -> Option<u64>
     ensures { result ≡ first_readable from (if_so (due.is_served t.now.operations t.now session.now.session o.now.ask) (until (due.quiesce_at t.now.config session.now.session.lease))) }
 {
-    if is_served(t, session, &o.ask) {
-        before_quiesce(t, session, from)
-    } else {
-        None
+    if !is_served(t, session, &o.ask) {
+        return None;
     }
+    if session.is_condemned() {
+        return None;
+    }
+    let config = t.config();
+    before(from, session.date(), config.quiesce.min(config.flush))
 }
 
 /// When the operation is answered because the lease is in quiesce.
+#[tactic(auto, using(crate::proofs::SpanMoments::min_sum))]
 fn quiesced_due(t: &TurnView<'_>, session: &Session, o: &Operation, from: Stamp) -> Option<u64>
     ensures { result ≡ first_readable from (if_so (not (is_sent o.now)) (from_on (due.quiesce_at t.now.config session.now.session.lease))) }
 {
     if is_sent(o) {
-        None
-    } else {
-        since_quiesce(t, session, from)
+        return None;
     }
+    if session.is_condemned() {
+        return at_once(from);
+    }
+    let config = t.config();
+    since(from, session.date(), config.quiesce.min(config.flush))
 }
 
 /// When the operation is served or answered with this session.
@@ -136,20 +108,13 @@ fn due_with(t: &TurnView<'_>, session: &Session, o: &Operation, from: Stamp) -> 
     )
 }
 
-/// When the operation is served or answered, with or without a session.
-fn due_by_session(t: &TurnView<'_>, o: &Operation, from: Stamp) -> Option<u64>
-    ensures { result ≡ first_readable from (due.served_during t.now.operations t.now o.now t.now.here.session) }
+/// When the operation is answered, or a page is fetched for it, at this server.
+fn operation_due(t: &TurnView<'_>, o: &Operation, from: Stamp) -> Option<u64>
+    ensures { result ≡ first_readable from (due.operation_during t.now.operations t.now o.now) }
 {
-    match t.session() {
-        None => None,
-        Some(session) => due_with(t, session, o, from),
+    if !is_of(t.server(), o) {
+        return None;
     }
-}
-
-/// When an operation of this server is answered, or a page is fetched for it.
-fn answer_due(t: &TurnView<'_>, o: &Operation, from: Stamp) -> Option<u64>
-    ensures { result ≡ first_readable from (due.answered_during t.now.operations t.now o.now o.now.ask) }
-{
     match &o.ask {
         Ask::Sync(file) => {
             if t.is_hard(file.ino) {
@@ -158,18 +123,10 @@ fn answer_due(t: &TurnView<'_>, o: &Operation, from: Stamp) -> Option<u64>
                 None
             }
         }
-        _ => due_by_session(t, o, from),
-    }
-}
-
-/// When the operation is answered, or a page is fetched for it, at this server.
-fn operation_due(t: &TurnView<'_>, o: &Operation, from: Stamp) -> Option<u64>
-    ensures { result ≡ first_readable from (due.operation_during t.now.operations t.now o.now) }
-{
-    if is_of(t.server(), o) {
-        answer_due(t, o, from)
-    } else {
-        None
+        _ => match t.session() {
+            None => None,
+            Some(session) => due_with(t, session, o, from),
+        },
     }
 }
 

@@ -4,20 +4,12 @@ ghost use Rattle.std.specs.List.{list_any};
 ghost use Rattle.st_client_due.specs.ClientDue as due;
 ghost use Rattle.st_client_moments.specs.FirstMoments.{first_readable};
 ghost use Rattle.st_rules.specs.ClientLocks as locks;
-ghost use Rattle.st_rules.specs.ClientPasses as passes;
 
 use crate::spans::at_once;
 use st_base::Stamp;
 use st_client_association::{TurnView, is_busy};
 use st_client_session::Session;
 use std::alloc::AllocError;
-
-/// Whether the file has no dirty page and no outstanding command, and is not busy.
-fn may_reduce(t: &TurnView<'_>, session: &Session, ino: u32) -> bool
-    ensures { result ≡ passes.may_reduce t.now session.now.session ino }
-{
-    t.is_idle(ino) && !is_busy(t.operations(), t.server(), session, ino)
-}
 
 /// Whether a reduction of the file gives a lock back: one is held, and is demanded.
 fn is_given(session: &Session, ino: u32) -> bool
@@ -26,11 +18,12 @@ fn is_given(session: &Session, ino: u32) -> bool
     session.is_demanded(ino) && session.lock(ino).is_some()
 }
 
-/// Whether the file's lock is reduced.
+/// Whether the file's lock is reduced: it has no dirty page and no outstanding command, is not busy,
+/// and gives a lock back.
 fn is_reduced(t: &TurnView<'_>, session: &Session, ino: u32) -> bool
     ensures { result ≡ due.is_reduced t.now session.now.session ino }
 {
-    may_reduce(t, session, ino) && is_given(session, ino)
+    (t.is_idle(ino) && !is_busy(t.operations(), t.server(), session, ino)) && is_given(session, ino)
 }
 
 /// Whether one of the two is so.

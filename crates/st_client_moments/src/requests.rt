@@ -24,19 +24,12 @@ fn keep_alive_due(t: &TurnView<'_>, session: &Session, from: Stamp) -> Option<u6
     sooner(renew, sooner(quiesce, flush))
 }
 
-/// Whether a release must be sent.
-#[tactic(auto, using(crate::proofs::SomethingToAsk::release_first))]
-fn has_release(session: &Session) -> bool
-    ensures { result ≡ due.has_release session.now.session.releases }
-{
-    session.first_release().is_some()
-}
-
 /// When the locks are reasserted, or a release is sent.
+#[tactic(auto, using(crate::proofs::SomethingToAsk::release_first))]
 fn duty_due(session: &Session, from: Stamp) -> Option<u64>
     ensures { result ≡ first_readable from (if_so (session.now.session.due || due.has_release session.now.session.releases) (from_on 0)) }
 {
-    if session.is_due() || has_release(session) {
+    if session.is_due() || session.first_release().is_some() {
         at_once(from)
     } else {
         None

@@ -9,14 +9,14 @@ ghost use Rattle.st_rules.specs.ClientLocks as locks;
 ghost use Rattle.st_rules.specs.ClientPasses as passes;
 
 use crate::spans::{at_once, since};
-use st_base::{GrantNo, Mode, PageNo, Stamp};
+use st_base::{GrantNo, Mode, Stamp};
 use st_client_association::TurnView;
 use st_client_passes::{is_open_file, need};
 use st_client_session::Session;
 use st_due::sooner;
 use st_messages::Ask;
 use st_operations::{file_of, is_of, is_sent};
-use st_rules::{HeldLock, Operation};
+use st_rules::Operation;
 
 /// When the lock on the file is asked for.
 fn lock_due(t: &TurnView<'_>, session: &Session, ino: u32, mode: Mode, from: Stamp) -> Option<u64>
@@ -34,45 +34,18 @@ fn lock_due(t: &TurnView<'_>, session: &Session, ino: u32, mode: Mode, from: Sta
     }
 }
 
-/// Whether the page is cached, or its place is known.
-fn is_at_hand(t: &TurnView<'_>, ino: u32, page: PageNo) -> bool
-    ensures { result ≡ passes.is_at_hand t.now ino page }
-{
-    t.is_cached(ino, page) || t.known(ino, page).is_some()
-}
-
 /// Whether an ask with the lock that it needs has something to ask.
 #[tactic(auto, using(crate::proofs::SomethingToAsk::map_wanted, crate::proofs::SomethingToAsk::block_wanted, crate::proofs::SomethingToAsk::cut_wanted), unfolding(st_rules::specs::ClientPasses::want_held))]
 fn asks_held(t: &TurnView<'_>, ask: &Ask, ino: u32, g: GrantNo) -> bool
     ensures { result ≡ is_some (passes.want_held t.now ask.now ino g) }
 {
     match ask {
-        Ask::Read(_, page) => !is_at_hand(t, ino, *page),
+        Ask::Read(_, page) => !(t.is_cached(ino, *page) || t.known(ino, *page).is_some()),
         Ask::Write(_, page, _) => !t.is_mapped(ino, *page),
         Ask::Patch(_, page, _, _) => !t.is_mapped(ino, *page),
         Ask::Cut(_, _) => t.is_idle(ino),
         Ask::Name(_, _) => t.is_idle(ino),
         Ask::Sync(_) => false,
-    }
-}
-
-/// When an ask asks with this lock, which may be lower than it needs.
-fn due_under(
-    t: &TurnView<'_>,
-    session: &Session,
-    ask: &Ask,
-    ino: u32,
-    lock: HeldLock,
-    from: Stamp,
-) -> Option<u64>
-    ensures { result ≡ first_readable from (due.wanted_under t.now session.now.session ask.now ino lock) }
-{
-    if !lock.mode.covers(need(ask)) {
-        lock_due(t, session, ino, need(ask), from)
-    } else if asks_held(t, ask, ino, lock.g) {
-        at_once(from)
-    } else {
-        None
     }
 }
 
@@ -82,26 +55,27 @@ fn due_on(t: &TurnView<'_>, session: &Session, ask: &Ask, ino: u32, from: Stamp)
 {
     match session.lock(ino) {
         None => lock_due(t, session, ino, need(ask), from),
-        Some(lock) => due_under(t, session, ask, ino, lock, from),
+        Some(lock) => {
+            if !lock.mode.covers(need(ask)) {
+                lock_due(t, session, ino, need(ask), from)
+            } else if asks_held(t, ask, ino, lock.g) {
+                at_once(from)
+            } else {
+                None
+            }
+        }
     }
 }
 
-/// Whether an ask on no file has something to ask: it is for a name.
+/// When an ask on no file asks: it is for a name.
 #[tactic(auto, unfolding(st_rules::specs::ClientPasses::want_name))]
-fn asks_name(ask: &Ask) -> bool
-    ensures { result ≡ is_some (passes.want_name ask.now) }
-{
-    match ask {
-        Ask::Name(_, _) => true,
-        _ => false,
-    }
-}
-
-/// When an ask on no file asks.
 fn name_due(ask: &Ask, from: Stamp) -> Option<u64>
     ensures { result ≡ first_readable from (if_so (is_some (passes.want_name ask.now)) (from_on 0)) }
 {
-    if asks_name(ask) { at_once(from) } else { None }
+    match ask {
+        Ask::Name(_, _) => at_once(from),
+        _ => None,
+    }
 }
 
 /// When an ask has something to ask.
@@ -117,21 +91,15 @@ fn ask_due(t: &TurnView<'_>, session: &Session, ask: &Ask, from: Stamp) -> Optio
     }
 }
 
-/// Whether the operation is of this server, was not sent, and is on a file that is neither demanded
-/// nor busy, or on none.
-fn may_ask(t: &TurnView<'_>, session: &Session, o: &Operation) -> bool
-    ensures { result ≡ passes.may_ask t.now session.now.session o.now }
-{
-    let server = t.server();
-    is_of(server, o)
-        && (!is_sent(o) && is_open_file(t.operations(), server, session, file_of(&o.ask)))
-}
-
-/// When the operation has something to ask.
+/// When the operation has something to ask: it is of this server, was not sent, and is on a file
+/// that is neither demanded nor busy, or on none.
 fn operation_due(t: &TurnView<'_>, session: &Session, o: &Operation, from: Stamp) -> Option<u64>
     ensures { result ≡ first_readable from (due.asked_during t.now session.now.session o.now) }
 {
-    if may_ask(t, session, o) {
+    let server = t.server();
+    if is_of(server, o)
+        && (!is_sent(o) && is_open_file(t.operations(), server, session, file_of(&o.ask)))
+    {
         ask_due(t, session, &o.ask, from)
     } else {
         None

@@ -14,25 +14,8 @@ use st_due::sooner;
 use st_operations::{CutOn, SyncOn};
 use std::alloc::AllocError;
 
-/// Whether a write of the dirty page may begin: it has a block, and is not being written.
-fn is_writable(t: &TurnView<'_>, page: &DirtyRow<'_>) -> bool
-    ensures { result ≡ due.is_writable t.now page.now }
-{
-    !t.is_being_written(page.ino(), page.page()) && t.is_mapped(page.ino(), page.page())
-}
-
-/// Whether a cut or a remove waits for the file's pages.
-fn is_cut_wanted(t: &TurnView<'_>, session: &Session, ino: u32) -> bool
-    ensures { result ≡ passes.is_cut_wanted t.now session.now.session ino }
-{
-    let cut = CutOn {
-        server: t.server(),
-        ino,
-    };
-    session.mode(ino).covers(Mode::X) && t.operations().any(&cut)
-}
-
-/// Whether the file's dirty pages are written before flush.
+/// Whether the file's dirty pages are written before flush: the file is demanded, or a sync, a cut
+/// or a remove waits for its pages.
 fn is_wanted(t: &TurnView<'_>, session: &Session, ino: u32) -> bool
     ensures { result ≡ passes.is_wanted t.now session.now.session ino }
 {
@@ -40,7 +23,13 @@ fn is_wanted(t: &TurnView<'_>, session: &Session, ino: u32) -> bool
         server: t.server(),
         ino,
     };
-    session.is_demanded(ino) || (t.operations().any(&sync) || is_cut_wanted(t, session, ino))
+    let cut = CutOn {
+        server: t.server(),
+        ino,
+    };
+    session.is_demanded(ino)
+        || (t.operations().any(&sync)
+            || (session.mode(ino).covers(Mode::X) && t.operations().any(&cut)))
 }
 
 /// When the page is written because its file is wanted.
@@ -65,23 +54,17 @@ fn flush_due(t: &TurnView<'_>, session: &Session, page: &DirtyRow<'_>, from: Sta
     }
 }
 
-/// When a page of which a write may begin is written.
+/// When the dirty page is written, if a write of it may begin: it has a block, and is not being
+/// written.
 #[tactic(auto, using(crate::proofs::SpanMoments::first_joined))]
-fn write_due(t: &TurnView<'_>, session: &Session, page: &DirtyRow<'_>, from: Stamp) -> Option<u64>
-    ensures { result ≡ first_readable from (due.due_during t.now session.now.session page.now) }
-{
-    sooner(
-        wanted_due(t, session, page.ino(), from),
-        flush_due(t, session, page, from),
-    )
-}
-
-/// When the dirty page is written.
 fn dirty_due(t: &TurnView<'_>, session: &Session, page: &DirtyRow<'_>, from: Stamp) -> Option<u64>
     ensures { result ≡ first_readable from (due.dirty_during t.now session.now.session page.now) }
 {
-    if is_writable(t, page) {
-        write_due(t, session, page, from)
+    if !t.is_being_written(page.ino(), page.page()) && t.is_mapped(page.ino(), page.page()) {
+        sooner(
+            wanted_due(t, session, page.ino(), from),
+            flush_due(t, session, page, from),
+        )
     } else {
         None
     }
