@@ -122,21 +122,6 @@ fn follows(before: Option<Row>, row: Row) -> bool {
     }
 }
 
-/// The run of one row.
-fn run_of(row: Row) -> (RunKey, Run) {
-    let key = (file(row.ino), PageNo(row.page));
-    let at = BlockAt {
-        disk: DiskId((2 + row.block / 16 % 3 * 3) as u16),
-        block: row.block % 16,
-    };
-    let run = Run {
-        length: 1,
-        at,
-        birth: row.birth,
-    };
-    (key, run)
-}
-
 /// The runs of plain rows, in rising order.
 fn runs_of(alloc: Global, rows: &[Row]) -> Result<Vec<(RunKey, Run)>, AllocError> {
     let mut sorted = Vec::from_slice(alloc, rows)?;
@@ -145,7 +130,16 @@ fn runs_of(alloc: Global, rows: &[Row]) -> Result<Vec<(RunKey, Run)>, AllocError
     let mut before = None;
     for row in sorted.iter().copied() {
         if !follows(before, row) {
-            runs.push(run_of(row))?;
+            let at = BlockAt {
+                disk: DiskId((2 + row.block / 16 % 3 * 3) as u16),
+                block: row.block % 16,
+            };
+            let run = Run {
+                length: 1,
+                at,
+                birth: row.birth,
+            };
+            runs.push(((file(row.ino), PageNo(row.page)), run))?;
         } else if let Some(last) = runs.last_mut() {
             last.1.length = last.1.length.wrapping_add(1);
         }
@@ -167,19 +161,15 @@ fn same_runs(alloc: Global, extents: &Extents, rows: &[Row]) -> Result<bool, All
     Ok(rest.next().is_none())
 }
 
-/// Whether a block, by its number, lies on none of the runs.
-fn is_free(extents: &Extents, block: u32) -> bool {
-    !extents.runs().iter().any(|(_key, run)| {
-        let first = number(run.at);
-        first <= block && block < first.wrapping_add(run.length)
-    })
-}
-
 /// Whether the blocks on none of the runs are these, and are counted.
 fn same_free(extents: &Extents, blocks: &[u32]) -> bool {
     let mut count = 0usize;
     for block in 0..48u32 {
-        if is_free(extents, block) {
+        let taken = extents.runs().iter().any(|(_key, run)| {
+            let first = number(run.at);
+            first <= block && block < first.wrapping_add(run.length)
+        });
+        if !taken {
             if blocks.get(count).copied() != Some(block) {
                 return false;
             }

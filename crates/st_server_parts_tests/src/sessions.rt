@@ -35,30 +35,27 @@ fn begun(client: u16, life: u64) -> Row {
     }
 }
 
-fn hello_again(row: Row, life: u64, locks: bool) -> Hello {
-    if !row.live {
-        return if life > row.life {
-            Hello::Welcome
-        } else {
-            Hello::Old
-        };
-    }
-    if life < row.life {
-        return Hello::Old;
-    }
-    if life == row.life {
-        return Hello::Welcome;
-    }
-    if locks { Hello::Wait } else { Hello::Replaced }
-}
-
 /// A greeting by the rules' words, over plain rows.
 fn hello(rows: &mut Vec<Row>, client: u16, life: u64, locks: bool) -> Result<Hello, AllocError> {
     let Some(row) = row_of(rows, client) else {
         put(rows, begun(client, life))?;
         return Ok(Hello::Welcome);
     };
-    let hello = hello_again(row, life, locks);
+    let hello = if !row.live {
+        if life > row.life {
+            Hello::Welcome
+        } else {
+            Hello::Old
+        }
+    } else if life < row.life {
+        Hello::Old
+    } else if life == row.life {
+        Hello::Welcome
+    } else if locks {
+        Hello::Wait
+    } else {
+        Hello::Replaced
+    };
     let stays = row.live && life == row.life;
     if hello == Hello::Replaced || hello == Hello::Welcome && !stays {
         put(rows, begun(client, life))?;
@@ -79,20 +76,6 @@ fn code(taken: Taken<&Body>) -> u8 {
     }
 }
 
-fn take_live(row: Row, number: u64) -> u8 {
-    if number < row.last {
-        return 3;
-    }
-    if number > row.last {
-        return if number - 1 == row.last { 6 } else { 7 };
-    }
-    match row.reply {
-        0 => 3,
-        1 => 5,
-        _ => 4,
-    }
-}
-
 /// A request by the rules' words, over plain rows.
 fn take(rows: &[Row], client: u16, life: u64, epoch: u64, number: u64) -> u8 {
     if epoch != 7 {
@@ -107,7 +90,17 @@ fn take(rows: &[Row], client: u16, life: u64, epoch: u64, number: u64) -> u8 {
     if life < row.life || !row.live {
         return 3;
     }
-    take_live(row, number)
+    if number < row.last {
+        return 3;
+    }
+    if number > row.last {
+        return if number - 1 == row.last { 6 } else { 7 };
+    }
+    match row.reply {
+        0 => 3,
+        1 => 5,
+        _ => 4,
+    }
 }
 
 /// Changes a living row, if the client has one.
