@@ -54,12 +54,6 @@ pub fn lock_row(row: Row) -> Option<(u32, GrantNo, Mode)>
     Some((row.0, GrantNo(row.1), mode))
 }
 
-fn is_earlier(epoch: Epoch, g: GrantNo) -> bool
-    ensures { result ≡ locks_of.is_earlier_grant epoch g }
-{
-    (g.0 as u128) < epoch.0 as u128 * 4_294_967_296
-}
-
 /// A row of a lock whose grant number an earlier epoch gave.
 pub fn old_row(epoch: Epoch, row: Row) -> Option<(u32, GrantNo, Mode)>
     ensures ino { IfSome result (λ r. r.0 ≡ row.0) }
@@ -67,7 +61,7 @@ pub fn old_row(epoch: Epoch, row: Row) -> Option<(u32, GrantNo, Mode)>
     ensures earlier { IfSome result (λ r. is_old_row epoch r ≡ true) }
 {
     let found = lock_row(row)?;
-    if is_earlier(epoch, found.1) {
+    if (found.1.0 as u128) < epoch.0 as u128 * 4_294_967_296 {
         Some(found)
     } else {
         None

@@ -16,19 +16,8 @@ struct Ask {
     now: u64,
 }
 
-/// Whether a table's answer is what the plain rows say: a grant, the others in the way, or a
-/// refusal.
-fn is_answer(given: &Result<Verdict, LockRefusal>, wanted: Answer, others: &[ClientId]) -> bool {
-    match (given, wanted) {
-        (Ok(Verdict::Granted(g, m)), Answer::Granted(number, lock)) => {
-            g.0 == number && *m == mode(lock)
-        }
-        (Ok(Verdict::Queued(clients)), Answer::Queued) => clients.as_slice() == others,
-        (Err(LockRefusal::TooManyLocks), Answer::TooMany) => true,
-        _ => false,
-    }
-}
-
+/// Asks both for a lock; whether the table's answer is what the plain rows say: a grant, the others
+/// in the way, or a refusal.
 fn acquire(
     alloc: Global,
     locks: &mut LockTable,
@@ -48,7 +37,14 @@ fn acquire(
     let others = plain.in_the_way(alloc, ask.client, ask.ino, ask.mode)?;
     let given = locks.acquire(id, Life(ask.life), ask.ino, asked, grants);
     let wanted = plain.acquire(ask.client, ask.life, ask.ino, ask.mode, grants)?;
-    Ok(is_answer(&given, wanted, others.as_slice()))
+    Ok(match (&given, wanted) {
+        (Ok(Verdict::Granted(g, m)), Answer::Granted(number, lock)) => {
+            g.0 == number && *m == mode(lock)
+        }
+        (Ok(Verdict::Queued(clients)), Answer::Queued) => clients.as_slice() == others.as_slice(),
+        (Err(LockRefusal::TooManyLocks), Answer::TooMany) => true,
+        _ => false,
+    })
 }
 
 /// One of the last rows, or what was asked.
@@ -99,18 +95,8 @@ fn drawn_row(draws: &mut Draws, ino: u32, ask: Ask) -> Row {
     (ino, ask.now, 1 + draws.draw(2) as u8)
 }
 
-/// Three rows, of rising files that are near each other.
-fn drawn_rows(draws: &mut Draws, ask: Ask) -> [Row; 3] {
-    let first = 1 + draws.draw(100) as u32;
-    let second = first + 1 + draws.draw(3) as u32;
-    let third = second + 1 + draws.draw(3) as u32;
-    let a = drawn_row(draws, first, ask);
-    let b = drawn_row(draws, second, ask);
-    let c = drawn_row(draws, third, ask);
-    [a, b, c]
-}
-
-/// Three rows take the place of the client's locks, or all of its locks are gone.
+/// Three rows, of rising files that are near each other, take the place of the client's locks, or
+/// all of its locks are gone.
 fn install(
     locks: &mut LockTable,
     plain: &mut Plain,
@@ -124,7 +110,14 @@ fn install(
     if locks.has_rows(id) {
         return Ok(true);
     }
-    let rows = drawn_rows(draws, ask);
+    let first = 1 + draws.draw(100) as u32;
+    let second = first + 1 + draws.draw(3) as u32;
+    let third = second + 1 + draws.draw(3) as u32;
+    let rows = [
+        drawn_row(draws, first, ask),
+        drawn_row(draws, second, ask),
+        drawn_row(draws, third, ask),
+    ];
     let Some(given) = install_three(locks, id, Life(ask.life), rows) else {
         return Ok(false);
     };
@@ -162,32 +155,6 @@ fn answered(locks: &mut LockTable, plain: &mut Plain, draws: &mut Draws, ask: As
     true
 }
 
-/// Asks for 70 files in a row, of which nothing is granted: more than the passes keep one by one.
-fn crowd(
-    alloc: Global,
-    locks: &mut LockTable,
-    plain: &mut Plain,
-    ask: Ask,
-) -> Result<bool, AllocError> {
-    for place in 0..70 {
-        let ino = ask.ino.wrapping_add(place);
-        if !acquire(alloc, locks, plain, Ask { ino, ..ask }, false)? {
-            return Ok(false);
-        }
-    }
-    Ok(true)
-}
-
-/// The client is a suspect from now on, or nobody is.
-fn suspect(plain: &mut Plain, draws: &mut Draws, ask: Ask) -> Result<bool, AllocError> {
-    if draws.draw(3) == 0 {
-        plain.suspects.clear();
-    } else {
-        plain.suspects.push(ClientId(ask.client))?;
-    }
-    Ok(true)
-}
-
 /// What takes waits away.
 fn drop_waits(locks: &mut LockTable, plain: &mut Plain, draws: &mut Draws, ask: Ask) -> bool {
     if draws.draw(2) == 0 {
@@ -209,8 +176,25 @@ fn rare(
     ask: Ask,
 ) -> Result<bool, AllocError> {
     match draws.draw(8) {
-        0 => crowd(alloc, locks, plain, ask),
-        1 | 2 | 3 => suspect(plain, draws, ask),
+        // 70 files in a row, of which nothing is granted: more than the passes keep one by one.
+        0 => {
+            for place in 0..70 {
+                let ino = ask.ino.wrapping_add(place);
+                if !acquire(alloc, locks, plain, Ask { ino, ..ask }, false)? {
+                    return Ok(false);
+                }
+            }
+            Ok(true)
+        }
+        // The client is a suspect from now on, or nobody is.
+        1 | 2 | 3 => {
+            if draws.draw(3) == 0 {
+                plain.suspects.clear();
+            } else {
+                plain.suspects.push(ClientId(ask.client))?;
+            }
+            Ok(true)
+        }
         _ => Ok(drop_waits(locks, plain, draws, ask)),
     }
 }
@@ -280,24 +264,23 @@ fn agree(alloc: Global, locks: &LockTable, plain: &Plain, ask: Ask) -> Result<bo
     )
 }
 
-/// A file for which many clients ask, or one of many files, for most of which only client 1 asks.
-fn drawn_ino(draws: &mut Draws, client: u16) -> u32 {
-    if client == 1 && draws.draw(4) != 0 {
-        return 17 + draws.draw(4_000) as u32;
-    }
-    1 + draws.draw(16) as u32
-}
-
-/// Half of the calls are client 1's.
+/// Half of the calls are client 1's. They are on a file for which many clients ask, or on one of
+/// many files, for most of which only client 1 asks.
 fn drawn_ask(draws: &mut Draws, now: u64) -> Ask {
     let client = match draws.draw(2) {
         0 => 1,
         _ => 1 + draws.draw(16) as u16,
     };
+    let life = 1 + draws.draw(2);
+    let ino = if client == 1 && draws.draw(4) != 0 {
+        17 + draws.draw(4_000) as u32
+    } else {
+        1 + draws.draw(16) as u32
+    };
     Ask {
         client,
-        life: 1 + draws.draw(2),
-        ino: drawn_ino(draws, client),
+        life,
+        ino,
         mode: 1 + draws.draw(2) as u8,
         now,
     }

@@ -71,17 +71,6 @@ fn sent(client: u16, life: u64, ino: u32, g: u64, to: u8) -> Sent {
     (ClientId(client), Life(life), ino, GrantNo(g), mode(to))
 }
 
-fn installed(client: u16, life: u64, row: arguments::Row) -> Row {
-    Row {
-        client,
-        ino: row.0,
-        life,
-        g: row.1,
-        mode: row.2,
-        asked: None,
-    }
-}
-
 impl Row {
     /// Since when the demand on this row waits for an answer, if it does.
     pub fn since(&self) -> Option<u64> {
@@ -114,6 +103,13 @@ impl Plain {
             .any(|row| stands(row, client, ino, mode))
     }
 
+    fn waits_for(&self, client: u16, ino: u32) -> bool {
+        self.waits
+            .iter()
+            .copied()
+            .any(|wait| wait.client == client && wait.ino == ino)
+    }
+
     fn waits_beside(&self, client: u16, ino: u32) -> bool {
         self.waits
             .iter()
@@ -121,19 +117,14 @@ impl Plain {
             .any(|wait| wait.ino == ino && wait.client != client)
     }
 
-    fn put_row(&mut self, row: Row) -> Result<(), AllocError> {
-        self.rows
-            .retain(|old| old.client != row.client || old.ino != row.ino);
-        self.rows.push(row)?;
-        Ok(())
-    }
-
     fn grant(&mut self, client: u16, life: u64, ino: u32, mode: u8) -> Result<u64, AllocError> {
         self.last = self.last.wrapping_add(1);
         self.waits
             .retain(|wait| wait.client != client || wait.ino != ino);
         let g = self.last;
-        self.put_row(Row {
+        self.rows
+            .retain(|row| row.client != client || row.ino != ino);
+        self.rows.push(Row {
             client,
             ino,
             life,
@@ -142,22 +133,6 @@ impl Plain {
             asked: None,
         })?;
         Ok(g)
-    }
-
-    fn queue(&mut self, client: u16, life: u64, ino: u32, mode: u8) -> Result<(), AllocError> {
-        for wait in self.waits.iter_mut() {
-            if wait.client == client && wait.ino == ino {
-                wait.mode = wait.mode.max(mode);
-                return Ok(());
-            }
-        }
-        self.waits.push(Wait {
-            client,
-            ino,
-            life,
-            mode,
-        })?;
-        Ok(())
     }
 
     /// The other clients that wait for the file or conflict on it, by rising number.
@@ -182,13 +157,6 @@ impl Plain {
         found.sort()?;
         found.dedup();
         Ok(found)
-    }
-
-    fn waits_for(&self, client: u16, ino: u32) -> bool {
-        self.waits
-            .iter()
-            .copied()
-            .any(|wait| wait.client == client && wait.ino == ino)
     }
 
     /// How many files there are on which the client has a row or waits.
@@ -223,7 +191,18 @@ impl Plain {
             let g = self.grant(client, life, ino, mode)?;
             return Ok(Answer::Granted(g, mode));
         }
-        self.queue(client, life, ino, mode)?;
+        for wait in self.waits.iter_mut() {
+            if wait.client == client && wait.ino == ino {
+                wait.mode = wait.mode.max(mode);
+                return Ok(Answer::Queued);
+            }
+        }
+        self.waits.push(Wait {
+            client,
+            ino,
+            life,
+            mode,
+        })?;
         Ok(Answer::Queued)
     }
 
@@ -248,7 +227,10 @@ impl Plain {
         for row in self.rows.iter_mut() {
             if row.client == client && row.ino == ino {
                 row.mode = 1;
-                row.asked = lowered(row.asked);
+                row.asked = match row.asked {
+                    Some(Asked { to: 1, .. }) => None,
+                    other => seen(other),
+                };
             }
         }
     }
@@ -297,25 +279,26 @@ impl Plain {
             return Ok(Some(conflict));
         }
         for row in rows {
-            self.rows.push(installed(client, life, *row))?;
+            self.rows.push(Row {
+                client,
+                ino: row.0,
+                life,
+                g: row.1,
+                mode: row.2,
+                asked: None,
+            })?;
         }
         Ok(None)
     }
 
-    fn next(&self, ino: u32) -> Option<Wait> {
-        let first = self.waits.iter().copied().find(|wait| wait.ino == ino)?;
-        if self.is_against(first.client, ino, first.mode) {
-            None
-        } else {
-            Some(first)
-        }
-    }
-
     fn grant_on(&mut self, ino: u32, told: &mut Vec<Sent>) -> Result<(), AllocError> {
         for _ in 0..17 {
-            let Some(wait) = self.next(ino) else {
+            let Some(wait) = self.waits.iter().copied().find(|wait| wait.ino == ino) else {
                 return Ok(());
             };
+            if self.is_against(wait.client, ino, wait.mode) {
+                return Ok(());
+            }
             let g = self.grant(wait.client, wait.life, ino, wait.mode)?;
             told.push(sent(wait.client, wait.life, ino, g, wait.mode))?;
         }
@@ -342,14 +325,6 @@ impl Plain {
         Ok(told)
     }
 
-    fn write(&mut self, client: u16, ino: u32, asked: Asked) {
-        for row in self.rows.iter_mut() {
-            if row.client == client && row.ino == ino {
-                row.asked = Some(asked);
-            }
-        }
-    }
-
     fn demand_of(
         &mut self,
         now: u64,
@@ -359,7 +334,11 @@ impl Plain {
         told: &mut Vec<Sent>,
     ) -> Result<(), AllocError> {
         if let Some(asked) = due(row.asked, now, tick, to) {
-            self.write(row.client, row.ino, asked);
+            for old in self.rows.iter_mut() {
+                if old.client == row.client && old.ino == row.ino {
+                    old.asked = Some(asked);
+                }
+            }
             told.push(sent(row.client, row.life, row.ino, row.g, asked.to))?;
         }
         Ok(())
@@ -377,10 +356,6 @@ impl Plain {
         Ok(found)
     }
 
-    fn is_suspect(&self, client: u16) -> bool {
-        self.suspects.iter().any(|suspect| suspect.0 == client)
-    }
-
     fn demand_on(
         &mut self,
         alloc: Global,
@@ -394,7 +369,8 @@ impl Plain {
         };
         let to = if wait.mode == 2 { 0 } else { 1 };
         for row in self.rows_of(alloc, ino)?.iter().copied() {
-            if !self.is_suspect(row.client) && stands(row, wait.client, ino, wait.mode) {
+            let suspect = self.suspects.iter().any(|suspect| suspect.0 == row.client);
+            if !suspect && stands(row, wait.client, ino, wait.mode) {
                 self.demand_of(now, tick, row, to, told)?;
             }
         }
@@ -428,8 +404,10 @@ impl Plain {
     pub fn unanswered(&self, alloc: Global, now: u64) -> Result<Vec<ClientId>, AllocError> {
         let mut found = Vec::new(alloc);
         for row in self.rows.iter() {
-            if is_late(row.asked, now) {
-                found.push(ClientId(row.client))?;
+            if let Some(since) = row.since() {
+                if now >= since && now - since >= 10 {
+                    found.push(ClientId(row.client))?;
+                }
             }
         }
         found.sort()?;
@@ -473,18 +451,6 @@ impl Plain {
     }
 }
 
-fn is_late(asked: Option<Asked>, now: u64) -> bool {
-    match asked {
-        Some(
-            Asked {
-                since: Some(since),
-                ..
-            },
-        ) => now >= since && now - since >= 10,
-        _ => false,
-    }
-}
-
 fn seen(asked: Option<Asked>) -> Option<Asked> {
     let asked = asked?;
     Some(Asked {
@@ -492,13 +458,6 @@ fn seen(asked: Option<Asked>) -> Option<Asked> {
         sent: asked.sent,
         since: None,
     })
-}
-
-fn lowered(asked: Option<Asked>) -> Option<Asked> {
-    match asked {
-        Some(Asked { to: 1, .. }) => None,
-        other => seen(other),
-    }
 }
 
 /// The demand that is sent now, if one is.
