@@ -18,7 +18,7 @@ fn is_given(session: &Session, ino: u32) -> bool
     session.is_demanded(ino) && session.lock(ino).is_some()
 }
 
-/// Whether the file's lock is reduced: it has no dirty page and no outstanding command, is not busy,
+/// Whether the file's lock is reduced: it has no dirty page and no outstanding command, isn't busy,
 /// and gives a lock back.
 fn is_reduced(t: &TurnView<'_>, session: &Session, ino: u32) -> bool
     ensures { result ≡ due.is_reduced t.now session.now.session ino }

@@ -8,7 +8,7 @@ use st_clock::Clock;
 use st_codec::{CodecRefusal, decode, encode};
 use st_embed::{EmbeddedClient, EmbeddedServer, Shape};
 use st_link::{Failed, Link, MemoryLink, Sink, Source, UnixLink};
-use st_messages::{Output, Outputs};
+use st_messages::Output;
 use st_node::{Node, NodeFault, serve};
 use st_server::{ServerNode, answers_are_named};
 use std::alloc::{AllocError, Global};
@@ -129,19 +129,6 @@ impl Clock for Listed {
     }
 }
 
-/// The clock of these numbers.
-fn clock_of(alloc: Global, words: &str) -> Result<Listed, AllocError> {
-    let mut readings = Vec::new(alloc);
-    for word in words.split(' ') {
-        readings.push(word.parse::<u64>().unwrap_or(0))?;
-    }
-    Ok(Listed {
-        readings,
-        next: 0,
-        latest: 0,
-    })
-}
-
 /// A link over bytes in memory that gives one byte in each call. It does not know its bytes.
 #[derive(Drop)]
 struct Slow {
@@ -219,14 +206,22 @@ fn told(alloc: Global, served: Result<(), NodeFault>) -> Result<String, AllocErr
     }
 }
 
-/// Serves a fresh node of this kind over this link.
+/// Serves a fresh node of this kind over this link, by a clock that gives these readings.
 fn serve_fresh<L: Link>(
     alloc: Global,
     kind: &str,
     link: &mut L,
     readings: &str,
 ) -> Result<Result<(), NodeFault>, AllocError> {
-    let mut clock = clock_of(alloc, readings)?;
+    let mut listed = Vec::new(alloc);
+    for word in readings.split(' ') {
+        listed.push(word.parse::<u64>().unwrap_or(0))?;
+    }
+    let mut clock = Listed {
+        readings: listed,
+        next: 0,
+        latest: 0,
+    };
     let mut node = fresh(alloc, kind)?;
     Ok(serve(alloc, link, &mut clock, &mut node))
 }
@@ -297,21 +292,19 @@ fn streams_are_served_as_an_independent_reading_serves_them(rt: HostRuntime) -> 
     Ok(())
 }
 
-/// Appends the grant of a lock on this file, under the file's number, that nobody asked for.
-fn push_grant(bytes: &mut Vec<u8>, ino: u32) -> Result<(), AllocError> {
-    push_runs(bytes, "00*3 33 01 23 80 01 00 01 00*7 01 00*7 01 00*16")?;
-    bytes.extend_from_slice(&ino.to_be_bytes())?;
-    bytes.extend_from_slice(&u64::from(ino).to_be_bytes())?;
-    bytes.push(1)?;
-    Ok(())
-}
-
 /// A client is granted 1,025 locks. It holds 1,024 of them, and releases the last one once it may.
 #[test]
 fn a_client_releases_what_it_cannot_hold(rt: HostRuntime) -> Result<(), Fail> {
     let mut bytes = bytes_of(rt.alloc(), ASK_AND_WELCOME)?;
     for ino in 1001..2026u32 {
-        push_grant(&mut bytes, ino)?;
+        // A grant that nobody asked for; its number is the file's.
+        push_runs(
+            &mut bytes,
+            "00*3 33 01 23 80 01 00 01 00*7 01 00*7 01 00*16",
+        )?;
+        bytes.extend_from_slice(&ino.to_be_bytes())?;
+        bytes.extend_from_slice(&u64::from(ino).to_be_bytes())?;
+        bytes.push(1)?;
     }
     push_runs(&mut bytes, QUEUED)?;
     let want = bytes_of(rt.alloc(), RELEASED)?;
@@ -363,14 +356,6 @@ fn start(server: &mut ServerNode) -> Result<bool, AllocError> {
     Ok(true)
 }
 
-/// Whether the one output is the message of these bytes.
-fn is_answer(alloc: Global, outputs: &Outputs, want: &[u8]) -> Result<bool, AllocError> {
-    if let [Output::Send(answer)] = outputs.as_slice() {
-        return Ok(answer.fits() && encode(alloc, answer)?.as_slice() == want);
-    }
-    Ok(false)
-}
-
 /// Whether a server that runs answers the message of these bytes with that of the others.
 fn answers(
     alloc: Global,
@@ -386,24 +371,25 @@ fn answers(
     if !server.running() || !server.has_room() || !message.fits() {
         return Ok(false);
     }
-    match answers_are_named(server, Stamp(0), message) {
-        Ok(outputs) => is_answer(alloc, &outputs, want.as_slice()),
-        Err(_) => Ok(false),
-    }
+    let Ok(outputs) = answers_are_named(server, Stamp(0), message) else {
+        return Ok(false);
+    };
+    let [Output::Send(answer)] = outputs.as_slice() else {
+        return Ok(false);
+    };
+    Ok(answer.fits() && encode(alloc, answer)?.as_slice() == want.as_slice())
 }
 
-/// Whether a server that runs again takes the reassertion, and refuses the two others.
-fn answers_reassertions(alloc: Global, server: &mut ServerNode) -> Result<bool, AllocError> {
-    let taken = answers(alloc, server, REASSERTION, REASSERTED)?;
-    let refused = answers(alloc, server, CONFLICT, IN_CONFLICT)?;
-    let unknown = answers(alloc, server, NEVER_GRANTED, NOT_GRANTED)?;
-    Ok(taken && refused && unknown)
-}
-
-/// Whether a server that crashed is started, and then answers reassertions as it must.
+/// Whether a server that crashed is started, takes the reassertion, and refuses the two others.
 fn is_right_again(alloc: Global) -> Result<bool, AllocError> {
     let mut server = crashed(alloc)?;
-    Ok(start(&mut server)? && answers_reassertions(alloc, &mut server)?)
+    if !start(&mut server)? {
+        return Ok(false);
+    }
+    let taken = answers(alloc, &mut server, REASSERTION, REASSERTED)?;
+    let refused = answers(alloc, &mut server, CONFLICT, IN_CONFLICT)?;
+    let unknown = answers(alloc, &mut server, NEVER_GRANTED, NOT_GRANTED)?;
+    Ok(taken && refused && unknown)
 }
 
 #[test]
