@@ -4,9 +4,7 @@ ghost use Rattle.std.specs.List.{list_all};
 ghost use Rattle.st_move.specs.Updates.{is_update};
 ghost use Rattle.st_schedule.specs.Parser.{Gives};
 ghost use Rattle.st_schedule_words.specs.Words as words;
-ghost use Rattle.st_schedule_words.specs.Words.{left, split, words_behind};
-ghost use Rattle.st_schedule.specs.declared.fault.Fault.{Fault};
-ghost use Rattle.st_schedule.specs.declared.fault.ReadError.{ReadError};
+ghost use Rattle.st_schedule_words.specs.Words.{split, words_behind};
 ghost use Rattle.st_script_containers.specs.MoveScripts as scripts;
 
 use st_base::ServerId;
@@ -56,16 +54,6 @@ fn is_update_text(word: &[u8]) -> bool
     1 <= word.len() && word.len() <= 64 && are_visible(word)
 }
 
-/// The fault of the next word, or of a line that has none.
-fn fault_at(rest: &[u8]) -> ReadError
-    ensures { result ≡ ReadError.Fault (Fault.Syntax (left (words_behind rest.now))) }
-{
-    match rest {
-        [] => ReadError::Fault(Fault::Syntax(0)),
-        [_, behind @ ..] => unknown_word(behind),
-    }
-}
-
 /// The text of an update.
 #[tactic(auto, unfolding(crate::specs::MoveScripts::update_at))]
 fn update_at(alloc: Global, rest: &[u8]) -> Result<(Update, &[u8]), ReadError>
@@ -73,20 +61,13 @@ fn update_at(alloc: Global, rest: &[u8]) -> Result<(Update, &[u8]), ReadError>
 {
     let (word, after) = word_at(rest)?;
     if !is_update_text(word) {
-        return Err(fault_at(rest));
+        return Err(match rest {
+            [] => ReadError::Fault(Fault::Syntax(0)),
+            [_, behind @ ..] => unknown_word(behind),
+        });
     }
     let update = Update::from_slice(alloc, word)?;
     Ok((update, after))
-}
-
-#[tactic(auto, unfolding(crate::specs::MoveScripts::put_at))]
-fn put_at(alloc: Global, rest: &[u8]) -> Result<MoveEvent, ReadError>
-    ensures { Gives (λ x. x) result (scripts.put_at (words_behind rest.now)) }
-{
-    let ((s, c), rest) = place_at(rest)?;
-    let (update, rest) = update_at(alloc, rest)?;
-    ends(rest)?;
-    Ok(MoveEvent::Put(s, c, update))
 }
 
 /// A server and a container, and no more.
@@ -99,16 +80,6 @@ fn place_alone(rest: &[u8]) -> Result<(ServerId, u32), ReadError>
     Ok(at)
 }
 
-#[tactic(auto, unfolding(crate::specs::MoveScripts::order_at))]
-fn order_at(rest: &[u8]) -> Result<MoveEvent, ReadError>
-    ensures { Gives (λ x. x) result (scripts.order_at (words_behind rest.now)) }
-{
-    let ((s, c), rest) = place_at(rest)?;
-    let (to, rest) = server_at(rest)?;
-    ends(rest)?;
-    Ok(MoveEvent::Order(s, c, to))
-}
-
 /// The number of a message, and no more.
 #[tactic(auto, unfolding(crate::specs::MoveScripts::message_alone))]
 fn message_alone(rest: &[u8]) -> Result<u32, ReadError>
@@ -119,12 +90,31 @@ fn message_alone(rest: &[u8]) -> Result<u32, ReadError>
     Ok(k as u32)
 }
 
-#[tactic(auto, unfolding(crate::specs::MoveScripts::other_of, crate::specs::MoveScripts::tick_at, crate::specs::MoveScripts::deliver_at, crate::specs::MoveScripts::lose_at))]
-fn other_of(word: &[u8], line: &[u8], rest: &[u8]) -> Result<MoveEvent, ReadError>
-    ensures { Gives (λ x. x) result (scripts.other_of word.now (split line.now) (words_behind rest.now)) }
+/// Reads the event of a line.
+#[tactic(auto, unfolding(crate::specs::MoveScripts::event, crate::specs::MoveScripts::event_of, crate::specs::MoveScripts::put_at, crate::specs::MoveScripts::list_at, crate::specs::MoveScripts::lock_at, crate::specs::MoveScripts::unlock_at, crate::specs::MoveScripts::other_of, crate::specs::MoveScripts::order_at, crate::specs::MoveScripts::tick_at, crate::specs::MoveScripts::deliver_at, crate::specs::MoveScripts::lose_at))]
+pub(crate) fn move_event(alloc: Global, line: &[u8]) -> Result<MoveEvent, ReadError>
+    ensures { Gives (λ x. x) result (scripts.event (split line.now)) }
 {
-    if is(word, b"order") {
-        order_at(rest)
+    let (word, rest) = split_word(line);
+    if is(word, b"put") {
+        let ((s, c), rest) = place_at(rest)?;
+        let (update, rest) = update_at(alloc, rest)?;
+        ends(rest)?;
+        Ok(MoveEvent::Put(s, c, update))
+    } else if is(word, b"list") {
+        let (s, c) = place_alone(rest)?;
+        Ok(MoveEvent::List(s, c))
+    } else if is(word, b"lock") {
+        let (s, c) = place_alone(rest)?;
+        Ok(MoveEvent::Lock(s, c))
+    } else if is(word, b"unlock") {
+        let (s, c) = place_alone(rest)?;
+        Ok(MoveEvent::Unlock(s, c))
+    } else if is(word, b"order") {
+        let ((s, c), rest) = place_at(rest)?;
+        let (to, rest) = server_at(rest)?;
+        ends(rest)?;
+        Ok(MoveEvent::Order(s, c, to))
     } else if is(word, b"tick") {
         let (s, rest) = server_at(rest)?;
         ends(rest)?;
@@ -136,36 +126,6 @@ fn other_of(word: &[u8], line: &[u8], rest: &[u8]) -> Result<MoveEvent, ReadErro
     } else {
         Err(unknown_word(line))
     }
-}
-
-/// Reads the event of a line with this first word.
-#[tactic(auto, unfolding(crate::specs::MoveScripts::event_of, crate::specs::MoveScripts::list_at, crate::specs::MoveScripts::lock_at, crate::specs::MoveScripts::unlock_at))]
-fn event_of(alloc: Global, word: &[u8], line: &[u8], rest: &[u8]) -> Result<MoveEvent, ReadError>
-    ensures { Gives (λ x. x) result (scripts.event_of word.now (split line.now) (words_behind rest.now)) }
-{
-    if is(word, b"put") {
-        put_at(alloc, rest)
-    } else if is(word, b"list") {
-        let (s, c) = place_alone(rest)?;
-        Ok(MoveEvent::List(s, c))
-    } else if is(word, b"lock") {
-        let (s, c) = place_alone(rest)?;
-        Ok(MoveEvent::Lock(s, c))
-    } else if is(word, b"unlock") {
-        let (s, c) = place_alone(rest)?;
-        Ok(MoveEvent::Unlock(s, c))
-    } else {
-        other_of(word, line, rest)
-    }
-}
-
-/// Reads the event of a line.
-#[tactic(auto, unfolding(crate::specs::MoveScripts::event))]
-pub(crate) fn move_event(alloc: Global, line: &[u8]) -> Result<MoveEvent, ReadError>
-    ensures { Gives (λ x. x) result (scripts.event (split line.now)) }
-{
-    let (word, rest) = split_word(line);
-    event_of(alloc, word, line, rest)
 }
 
 /// Reads a first line: how many servers there are, and how many containers.

@@ -1,7 +1,7 @@
 // The events of a volume with images, from their lines.
 ghost use Rattle.std.specs.Prelude.{◌≤◌, IfOk};
 ghost use Rattle.st_schedule.specs.Parser.{Gives};
-ghost use Rattle.st_schedule_words.specs.Words.{split, words_behind};
+ghost use Rattle.st_schedule_words.specs.Words.{split};
 ghost use Rattle.st_script_containers.specs.SnapScripts as scripts;
 
 use st_schedule::{ReadError, ends, number_at, split_word, unknown_word};
@@ -43,45 +43,32 @@ pub(crate) fn blocks_of(line: &[u8]) -> Result<u32, ReadError>
     }
 }
 
-#[tactic(auto, unfolding(crate::specs::SnapScripts::write_at))]
-fn write_at(rest: &[u8]) -> Result<SnapEvent, ReadError>
-    ensures { Gives (λ x. x) result (scripts.write_at (words_behind rest.now)) }
+/// Reads the event of a line.
+#[tactic(auto, unfolding(crate::specs::SnapScripts::event, crate::specs::SnapScripts::event_of, crate::specs::SnapScripts::write_at, crate::specs::SnapScripts::read_at, crate::specs::SnapScripts::take_at, crate::specs::SnapScripts::forget_at))]
+pub(crate) fn snap_event(line: &[u8]) -> Result<SnapEvent, ReadError>
+    ensures { Gives (λ x. x) result (scripts.event (split line.now)) }
 {
-    let (file, rest) = number_at(1, MOST_NUMBER, rest)?;
-    let (page, rest) = number_at(0, MOST_PAGE, rest)?;
-    let (byte, rest) = number_at(0, 255, rest)?;
-    ends(rest)?;
-    Ok(SnapEvent::Write {
-        file: file as u32,
-        page: page as u32,
-        byte: byte as u8,
-    })
-}
-
-#[tactic(auto, unfolding(crate::specs::SnapScripts::read_at))]
-fn read_at(rest: &[u8]) -> Result<SnapEvent, ReadError>
-    ensures { Gives (λ x. x) result (scripts.read_at (words_behind rest.now)) }
-{
-    let (image, rest) = number_at(0, MOST_IMAGE, rest)?;
-    let (file, rest) = number_at(1, MOST_NUMBER, rest)?;
-    let (page, rest) = number_at(0, MOST_PAGE, rest)?;
-    ends(rest)?;
-    Ok(SnapEvent::Read {
-        image: image as u32,
-        file: file as u32,
-        page: page as u32,
-    })
-}
-
-/// Reads the event of a line with this first word.
-#[tactic(auto, unfolding(crate::specs::SnapScripts::event_of, crate::specs::SnapScripts::take_at, crate::specs::SnapScripts::forget_at))]
-fn event_of(word: &[u8], line: &[u8], rest: &[u8]) -> Result<SnapEvent, ReadError>
-    ensures { Gives (λ x. x) result (scripts.event_of word.now (split line.now) (words_behind rest.now)) }
-{
+    let (word, rest) = split_word(line);
     if is(word, b"write") {
-        write_at(rest)
+        let (file, rest) = number_at(1, MOST_NUMBER, rest)?;
+        let (page, rest) = number_at(0, MOST_PAGE, rest)?;
+        let (byte, rest) = number_at(0, 255, rest)?;
+        ends(rest)?;
+        Ok(SnapEvent::Write {
+            file: file as u32,
+            page: page as u32,
+            byte: byte as u8,
+        })
     } else if is(word, b"read") {
-        read_at(rest)
+        let (image, rest) = number_at(0, MOST_IMAGE, rest)?;
+        let (file, rest) = number_at(1, MOST_NUMBER, rest)?;
+        let (page, rest) = number_at(0, MOST_PAGE, rest)?;
+        ends(rest)?;
+        Ok(SnapEvent::Read {
+            image: image as u32,
+            file: file as u32,
+            page: page as u32,
+        })
     } else if is(word, b"take") {
         ends(rest)?;
         Ok(SnapEvent::Take)
@@ -94,13 +81,4 @@ fn event_of(word: &[u8], line: &[u8], rest: &[u8]) -> Result<SnapEvent, ReadErro
     } else {
         Err(unknown_word(line))
     }
-}
-
-/// Reads the event of a line.
-#[tactic(auto, unfolding(crate::specs::SnapScripts::event))]
-pub(crate) fn snap_event(line: &[u8]) -> Result<SnapEvent, ReadError>
-    ensures { Gives (λ x. x) result (scripts.event (split line.now)) }
-{
-    let (word, rest) = split_word(line);
-    event_of(word, line, rest)
 }
