@@ -50,27 +50,20 @@ pub enum SharedEvent {
     Report(u64, bool),
 }
 
-#[tactic(auto, unfolding(crate::specs::SharedScripts::counts_at))]
-fn counts_at(rest: &[u8]) -> Result<SharedHead, ReadError>
-    ensures { Gives (λ x. x) result (scripts.counts_at (words_behind rest.now)) }
-{
-    let (clients, rest) = number_at(1, MOST_CLIENT, rest)?;
-    let (blocks, rest) = number_at(1, 4096, rest)?;
-    ends(rest)?;
-    Ok(SharedHead {
-        clients: clients as u16,
-        blocks: blocks as u32,
-    })
-}
-
 /// Reads a first line: the numbers of clients and of blocks.
-#[tactic(auto, unfolding(crate::specs::SharedScripts::head))]
+#[tactic(auto, unfolding(crate::specs::SharedScripts::head, crate::specs::SharedScripts::counts_at))]
 pub(crate) fn counts_of(line: &[u8]) -> Result<SharedHead, ReadError>
     ensures { Gives scripts.fresh result (scripts.head (split line.now)) }
 {
     let (word, rest) = split_word(line);
     if is(word, b"shared") {
-        counts_at(rest)
+        let (clients, rest) = number_at(1, MOST_CLIENT, rest)?;
+        let (blocks, rest) = number_at(1, 4096, rest)?;
+        ends(rest)?;
+        Ok(SharedHead {
+            clients: clients as u16,
+            blocks: blocks as u32,
+        })
     } else {
         Err(unknown_word(line))
     }
@@ -101,48 +94,8 @@ fn act_at(act: ClientAct, rest: &[u8]) -> Result<SharedEvent, ReadError>
     Ok(SharedEvent::Client(act, client))
 }
 
-#[tactic(auto, unfolding(crate::specs::SharedScripts::write_at))]
-fn write_at(rest: &[u8]) -> Result<SharedEvent, ReadError>
-    ensures { Gives (λ x. x) result (scripts.write_at (words_behind rest.now)) }
-{
-    let (client, rest) = client_at(rest)?;
-    let (page, rest) = page_at(rest)?;
-    let (byte, rest) = number_at(0, 255, rest)?;
-    ends(rest)?;
-    Ok(SharedEvent::Write(client, page, byte as u8))
-}
-
-#[tactic(auto, unfolding(crate::specs::SharedScripts::read_at))]
-fn read_at(rest: &[u8]) -> Result<SharedEvent, ReadError>
-    ensures { Gives (λ x. x) result (scripts.read_at (words_behind rest.now)) }
-{
-    let (client, rest) = client_at(rest)?;
-    let (page, rest) = page_at(rest)?;
-    ends(rest)?;
-    Ok(SharedEvent::Read(client, page))
-}
-
-#[tactic(auto, unfolding(crate::specs::SharedScripts::effect_at))]
-fn effect_at(rest: &[u8]) -> Result<SharedEvent, ReadError>
-    ensures { Gives (λ x. x) result (scripts.effect_at (words_behind rest.now)) }
-{
-    let (command, rest) = number_at(1, MOST_NUMBER, rest)?;
-    ends(rest)?;
-    Ok(SharedEvent::Effect(command))
-}
-
-#[tactic(auto, unfolding(crate::specs::SharedScripts::report_at))]
-fn report_at(rest: &[u8]) -> Result<SharedEvent, ReadError>
-    ensures { Gives (λ x. x) result (scripts.report_at (words_behind rest.now)) }
-{
-    let (command, rest) = number_at(1, MOST_NUMBER, rest)?;
-    let (ok, rest) = result_at(rest)?;
-    ends(rest)?;
-    Ok(SharedEvent::Report(command, ok))
-}
-
 /// Reads the event of a line.
-#[tactic(auto, unfolding(crate::specs::SharedScripts::event, crate::specs::SharedScripts::event_of, crate::specs::SharedScripts::stop_of, crate::specs::SharedScripts::command_of))]
+#[tactic(auto, unfolding(crate::specs::SharedScripts::event, crate::specs::SharedScripts::event_of, crate::specs::SharedScripts::stop_of, crate::specs::SharedScripts::command_of, crate::specs::SharedScripts::write_at, crate::specs::SharedScripts::read_at, crate::specs::SharedScripts::effect_at, crate::specs::SharedScripts::report_at))]
 pub(crate) fn shared_event(line: &[u8]) -> Result<SharedEvent, ReadError>
     ensures { Gives (λ x. x) result (scripts.event (split line.now)) }
 {
@@ -160,13 +113,25 @@ pub(crate) fn shared_event(line: &[u8]) -> Result<SharedEvent, ReadError>
     } else if is(word, b"expire") {
         act_at(ClientAct::Expire, rest)
     } else if is(word, b"write") {
-        write_at(rest)
+        let (client, rest) = client_at(rest)?;
+        let (page, rest) = page_at(rest)?;
+        let (byte, rest) = number_at(0, 255, rest)?;
+        ends(rest)?;
+        Ok(SharedEvent::Write(client, page, byte as u8))
     } else if is(word, b"read") {
-        read_at(rest)
+        let (client, rest) = client_at(rest)?;
+        let (page, rest) = page_at(rest)?;
+        ends(rest)?;
+        Ok(SharedEvent::Read(client, page))
     } else if is(word, b"effect") {
-        effect_at(rest)
+        let (command, rest) = number_at(1, MOST_NUMBER, rest)?;
+        ends(rest)?;
+        Ok(SharedEvent::Effect(command))
     } else if is(word, b"report") {
-        report_at(rest)
+        let (command, rest) = number_at(1, MOST_NUMBER, rest)?;
+        let (ok, rest) = result_at(rest)?;
+        ends(rest)?;
+        Ok(SharedEvent::Report(command, ok))
     } else {
         Err(unknown_word(line))
     }

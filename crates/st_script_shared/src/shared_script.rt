@@ -1,5 +1,5 @@
 // The script of a shared file: its state, and what each event does and answers.
-ghost use Rattle.std.specs.Prelude.{◌≡◌, ◌++◌, ◌&&◌, nat_le, OnOk, IfSome, IfNone, ⊤};
+ghost use Rattle.std.specs.Prelude.{◌≡◌, ◌++◌, OnOk, IfSome, IfNone, ⊤};
 ghost use Rattle.std.specs.Io.KnownBytes.{IsAtEnd};
 ghost use Rattle.st_base.specs.Page.{filled};
 ghost use Rattle.st_locks.specs.DemandStarts.{IsClient};
@@ -10,7 +10,6 @@ ghost use Rattle.st_script_shared.specs.SharedCalls as calls;
 ghost use Rattle.st_script_shared.specs.SharedScripts as scripts;
 ghost use Rattle.st_script_shared.specs.SharedScripts.{EveryScriptIsRight};
 ghost use Rattle.st_shared.specs.History as history;
-ghost use Rattle.st_tables.specs.Tables as tables;
 
 use crate::shared_answers::{absent_line, done_line, effect_line, number_line, told_line};
 use crate::shared_event::{ClientAct, SharedEvent, counts_of, shared_event};
@@ -178,20 +177,6 @@ fn play_bytes(
     number_line(text, number, answer)
 }
 
-fn play_write(
-    file: &mut SharedFile,
-    number: u64,
-    client: ClientId,
-    page: PageNo,
-    byte: u8,
-    text: &mut Vec<u8>,
-) -> Result<(), AllocError>
-    ensures text { OnOk result (text.new.items ≡ text.old.items ++ answer_lines number (calls.printed_on file.old (history.Write client page (filled byte)))) }
-    ensures stands { OnOk result (file.new ≡ calls.left_by file.old (history.Write client page (filled byte))) }
-{
-    play_bytes(file, number, client, page, &PageBytes::filled(byte), text)
-}
-
 fn play_read(
     file: &mut SharedFile,
     number: u64,
@@ -252,7 +237,7 @@ fn play_there(
     match event {
         SharedEvent::Client(what, client) => play_act(file, number, what, client, text),
         SharedEvent::Write(client, page, byte) => {
-            play_write(file, number, client, page, byte, text)
+            play_bytes(file, number, client, page, &PageBytes::filled(byte), text)
         }
         SharedEvent::Read(client, page) => play_read(file, number, client, page, text),
         SharedEvent::Effect(n) => play_effect(file, number, n, text),
@@ -260,39 +245,21 @@ fn play_there(
     }
 }
 
-/// The client of an event, if it has one.
-fn client_of(event: SharedEvent) -> Option<ClientId>
-    ensures { result ≡ scripts.client_of event }
-{
-    match event {
-        SharedEvent::Client(_, client) => Some(client),
-        SharedEvent::Write(client, _, _) => Some(client),
-        SharedEvent::Read(client, _) => Some(client),
-        SharedEvent::Effect(_) => None,
-        SharedEvent::Report(_, _) => None,
-    }
-}
-
-fn is_there(clients: u16, client: ClientId) -> bool
-    ensures { result ≡ (tables.is_client client.0 && nat_le client.0 clients) }
-{
-    1 <= client.0 && client.0 <= 16 && client.0 <= clients
-}
-
 /// The client of an event, if it has one that is not there.
 fn absent(clients: u16, event: SharedEvent) -> Option<ClientId>
     ensures absent { result ≡ scripts.absent clients (scripts.client_of event) }
     ensures there { IfNone result (IfSome (scripts.client_of event) IsClient) }
 {
-    match client_of(event) {
-        None => None,
-        Some(client) => {
-            if is_there(clients, client) {
-                None
-            } else {
-                Some(client)
-            }
-        }
+    let client = match event {
+        SharedEvent::Client(_, client) => client,
+        SharedEvent::Write(client, _, _) => client,
+        SharedEvent::Read(client, _) => client,
+        SharedEvent::Effect(_) | SharedEvent::Report(_, _) => return None,
+    };
+    if 1 <= client.0 && client.0 <= 16 && client.0 <= clients {
+        None
+    } else {
+        Some(client)
     }
 }
 
