@@ -1,5 +1,5 @@
 // The events of a journal, from their lines.
-ghost use Rattle.std.specs.Prelude.{◌≡◌, ◌≤◌, ◌+◌, true};
+ghost use Rattle.std.specs.Prelude.{◌≡◌, ◌≤◌, true};
 ghost use Rattle.st_journal.specs.Changes.{is_ranged};
 ghost use Rattle.st_schedule.specs.Parser.{Gives};
 ghost use Rattle.st_schedule_words.specs.Words.{split, words_behind};
@@ -104,46 +104,24 @@ pub enum JournalEvent {
     Stop(SetStop),
 }
 
-/// The most pages of an allocation from this page on.
-fn most_count(page: u64) -> u64
-    requires { page ≤ 1048575 }
-    ensures most { result ≡ scripts.most_count page }
-    ensures low { 1 ≤ result }
-    ensures high { result ≤ 64 }
-    ensures within { page + result ≤ 1048576 }
-{
-    if 1_048_512 < page {
-        1_048_576 - page
-    } else {
-        64
-    }
-}
-
 #[tactic(auto, unfolding(crate::specs::JournalScripts::allocate_at, st_journal::specs::Changes::is_ranged, st_rules::specs::Keys::page_no))]
 fn allocate_at(rest: &[u8]) -> Result<JournalEvent, ReadError>
     ensures { Gives (λ x. x) result (scripts.allocate_at (words_behind rest.now)) }
 {
     let (ino, rest) = number_at(1, MOST_NUMBER, rest)?;
     let (page, rest) = number_at(0, MOST_PAGE, rest)?;
-    let (count, rest) = number_at(1, most_count(page), rest)?;
+    // The last page is 1,048,575.
+    let most = if 1_048_512 < page {
+        1_048_576 - page
+    } else {
+        64
+    };
+    let (count, rest) = number_at(1, most, rest)?;
     ends(rest)?;
     Ok(JournalEvent::Change(RangedChange::new(Change::Allocate {
         ino: ino as u32,
         page: PageNo(page as u32),
         count: count as u16,
-    })))
-}
-
-#[tactic(auto, unfolding(crate::specs::JournalScripts::cut_at, st_journal::specs::Changes::is_ranged, st_rules::specs::Keys::page_no))]
-fn cut_at(rest: &[u8]) -> Result<JournalEvent, ReadError>
-    ensures { Gives (λ x. x) result (scripts.cut_at (words_behind rest.now)) }
-{
-    let (ino, rest) = number_at(1, MOST_NUMBER, rest)?;
-    let (from, rest) = number_at(0, MOST_PAGE, rest)?;
-    ends(rest)?;
-    Ok(JournalEvent::Change(RangedChange::new(Change::Cut {
-        ino: ino as u32,
-        from: PageNo(from as u32),
     })))
 }
 
@@ -203,18 +181,25 @@ fn rename_at(alloc: Global, rest: &[u8]) -> Result<JournalEvent, ReadError>
     })))
 }
 
-/// Reads the event of a line with this first word.
-#[tactic(auto, unfolding(crate::specs::JournalScripts::event_of, crate::specs::JournalScripts::epoch_at, crate::specs::JournalScripts::stop_at, st_journal::specs::Changes::is_ranged))]
-fn event_of(alloc: Global, word: &[u8], line: &[u8], rest: &[u8]) -> Result<JournalEvent, ReadError>
-    ensures { Gives (λ x. x) result (scripts.event_of word.now (split line.now) (words_behind rest.now)) }
+/// Reads the event of a line.
+#[tactic(auto, unfolding(crate::specs::JournalScripts::event, crate::specs::JournalScripts::event_of, crate::specs::JournalScripts::epoch_at, crate::specs::JournalScripts::cut_at, crate::specs::JournalScripts::stop_at, st_journal::specs::Changes::is_ranged, st_rules::specs::Keys::page_no))]
+pub(crate) fn journal_event(alloc: Global, line: &[u8]) -> Result<JournalEvent, ReadError>
+    ensures { Gives (λ x. x) result (scripts.event (split line.now)) }
 {
+    let (word, rest) = split_word(line);
     if is(word, b"epoch") {
         ends(rest)?;
         Ok(JournalEvent::Change(RangedChange::new(Change::Epoch)))
     } else if is(word, b"allocate") {
         allocate_at(rest)
     } else if is(word, b"cut") {
-        cut_at(rest)
+        let (ino, rest) = number_at(1, MOST_NUMBER, rest)?;
+        let (from, rest) = number_at(0, MOST_PAGE, rest)?;
+        ends(rest)?;
+        Ok(JournalEvent::Change(RangedChange::new(Change::Cut {
+            ino: ino as u32,
+            from: PageNo(from as u32),
+        })))
     } else if is(word, b"create") {
         create_at(alloc, rest)
     } else if is(word, b"mkdir") {
@@ -231,13 +216,4 @@ fn event_of(alloc: Global, word: &[u8], line: &[u8], rest: &[u8]) -> Result<Jour
     } else {
         Err(unknown_word(line))
     }
-}
-
-/// Reads the event of a line.
-#[tactic(auto, unfolding(crate::specs::JournalScripts::event))]
-pub(crate) fn journal_event(alloc: Global, line: &[u8]) -> Result<JournalEvent, ReadError>
-    ensures { Gives (λ x. x) result (scripts.event (split line.now)) }
-{
-    let (word, rest) = split_word(line);
-    event_of(alloc, word, line, rest)
 }
