@@ -4,7 +4,7 @@ ghost use Rattle.st_rules.specs.Report.{field};
 ghost use Rattle.st_script.specs.Scripts.{answer_lines};
 ghost use Rattle.st_script_shared.specs.SharedCalls.{done_answer, number_answer};
 ghost use Rattle.st_script_shared.specs.SharedScripts as scripts;
-ghost use Rattle.st_shared.specs.Calls.{shown, shown_result};
+ghost use Rattle.st_shared.specs.Calls.{shown_result};
 
 use st_base::ClientId;
 use st_report::{put_field, put_page, put_text};
@@ -20,18 +20,6 @@ fn put_one(text: &mut Vec<u8>, word: &[u8], n: u64) -> Result<(), AllocError>
     put_field(text, n)
 }
 
-fn put_disk_refusal(text: &mut Vec<u8>, refusal: DiskRefusal) -> Result<(), AllocError>
-    ensures { OnOk result (text.new.items ≡ text.old.items ++ scripts.disk_refusal refusal) }
-{
-    match refusal {
-        DiskRefusal::NoCommand(n) => put_one(text, b" nocommand", n),
-        DiskRefusal::Twice(n) => put_one(text, b" twice", n),
-        DiskRefusal::NotEffected(n) => put_one(text, b" noteffected", n),
-        DiskRefusal::Reported(n) => put_one(text, b" reported", n),
-        DiskRefusal::Memory => Ok(()),
-    }
-}
-
 /// Appends a refusal; if it is lack of memory, appends nothing.
 fn put_refusal(text: &mut Vec<u8>, refusal: SharedRefusal) -> Result<(), AllocError>
     ensures { OnOk result (text.new.items ≡ text.old.items ++ scripts.refusal refusal) }
@@ -44,54 +32,14 @@ fn put_refusal(text: &mut Vec<u8>, refusal: SharedRefusal) -> Result<(), AllocEr
         SharedRefusal::SharedBy(client) => put_one(text, b" shared", u64::from(client.0)),
         SharedRefusal::Stopped(client) => put_one(text, b" stopped", u64::from(client.0)),
         SharedRefusal::NotStopped(client) => put_one(text, b" notstopped", u64::from(client.0)),
-        SharedRefusal::Disk(refusal) => put_disk_refusal(text, refusal),
+        SharedRefusal::Disk(DiskRefusal::NoCommand(n)) => put_one(text, b" nocommand", n),
+        SharedRefusal::Disk(DiskRefusal::Twice(n)) => put_one(text, b" twice", n),
+        SharedRefusal::Disk(DiskRefusal::NotEffected(n)) => put_one(text, b" noteffected", n),
+        SharedRefusal::Disk(DiskRefusal::Reported(n)) => put_one(text, b" reported", n),
+        SharedRefusal::Disk(DiskRefusal::Memory) => Ok(()),
         SharedRefusal::NoPage(page) => put_one(text, b" nopage", u64::from(page.0)),
         SharedRefusal::NoLock => put_text(text, b" nolock"),
         SharedRefusal::Memory => Ok(()),
-    }
-}
-
-fn put_done(text: &mut Vec<u8>, answer: Result<(), SharedRefusal>) -> Result<(), AllocError>
-    ensures { OnOk result (text.new.items ≡ text.old.items ++ scripts.answer_text (done_answer answer)) }
-{
-    match answer {
-        Ok(()) => put_text(text, b" ok"),
-        Err(refusal) => put_refusal(text, refusal),
-    }
-}
-
-fn put_number(text: &mut Vec<u8>, answer: Result<u64, SharedRefusal>) -> Result<(), AllocError>
-    ensures { OnOk result (text.new.items ≡ text.old.items ++ scripts.answer_text (number_answer answer)) }
-{
-    match answer {
-        Ok(n) => put_one(text, b" command", n),
-        Err(refusal) => put_refusal(text, refusal),
-    }
-}
-
-fn put_answer(text: &mut Vec<u8>, answer: SharedAnswer<'_>) -> Result<(), AllocError>
-    ensures { OnOk result (text.new.items ≡ text.old.items ++ scripts.answer_text (shown answer.entry)) }
-{
-    match answer {
-        SharedAnswer::Hard => put_text(text, b" hard"),
-        SharedAnswer::Read(bytes) => {
-            put_text(text, b" read")?;
-            put_page(text, bytes)
-        }
-        SharedAnswer::Failed => put_text(text, b" failed"),
-        SharedAnswer::Silent => put_text(text, b" silent"),
-    }
-}
-
-fn put_told(
-    text: &mut Vec<u8>,
-    answer: Result<SharedAnswer<'_>, SharedRefusal>,
-) -> Result<(), AllocError>
-    ensures { OnOk result (text.new.items ≡ text.old.items ++ scripts.answer_text (shown_result answer.entry)) }
-{
-    match answer {
-        Ok(answer) => put_answer(text, answer),
-        Err(refusal) => put_refusal(text, refusal),
     }
 }
 
@@ -104,7 +52,10 @@ pub(crate) fn done_line(
     ensures { OnOk result (text.new.items ≡ text.old.items ++ answer_lines number (scripts.answer_text (done_answer answer) ∷ [])) }
 {
     begin_answer(text, number)?;
-    put_done(text, answer)?;
+    match answer {
+        Ok(()) => put_text(text, b" ok")?,
+        Err(refusal) => put_refusal(text, refusal)?,
+    }
     end_answer(text)
 }
 
@@ -117,7 +68,10 @@ pub(crate) fn number_line(
     ensures { OnOk result (text.new.items ≡ text.old.items ++ answer_lines number (scripts.answer_text (number_answer answer) ∷ [])) }
 {
     begin_answer(text, number)?;
-    put_number(text, answer)?;
+    match answer {
+        Ok(n) => put_one(text, b" command", n)?,
+        Err(refusal) => put_refusal(text, refusal)?,
+    }
     end_answer(text)
 }
 
@@ -130,7 +84,16 @@ pub(crate) fn told_line(
     ensures { OnOk result (text.new.items ≡ text.old.items ++ answer_lines number (scripts.answer_text (shown_result answer.entry) ∷ [])) }
 {
     begin_answer(text, number)?;
-    put_told(text, answer)?;
+    match answer {
+        Ok(SharedAnswer::Hard) => put_text(text, b" hard")?,
+        Ok(SharedAnswer::Read(bytes)) => {
+            put_text(text, b" read")?;
+            put_page(text, bytes)?;
+        }
+        Ok(SharedAnswer::Failed) => put_text(text, b" failed")?,
+        Ok(SharedAnswer::Silent) => put_text(text, b" silent")?,
+        Err(refusal) => put_refusal(text, refusal)?,
+    }
     end_answer(text)
 }
 
