@@ -30,25 +30,6 @@ fn number_of(refusal: NameRefusal) -> u64
     }
 }
 
-/// Appends a refusal. It fails if the refusal is lack of memory.
-fn put_why(text: &mut Vec<u8>, refusal: ChangeRefusal) -> Result<(), AllocError>
-    ensures { OnOk result (IsAnswered refusal × (text.new.items ≡ text.old.items ++ scripts.refusal refusal)) }
-{
-    match refusal {
-        ChangeRefusal::Names(why) => {
-            put_text(text, b" refused")?;
-            put_field(text, number_of(why))
-        }
-        ChangeRefusal::NoFile(_) => put_text(text, b" nofile"),
-        ChangeRefusal::NoSpace { free, asked } => {
-            put_text(text, b" nospace")?;
-            put_field(text, free)?;
-            put_field(text, asked)
-        }
-        ChangeRefusal::Memory => Err(AllocError),
-    }
-}
-
 /// Appends the line of a change that is refused. It fails if the refusal is lack of memory.
 fn put_refused_change(
     text: &mut Vec<u8>,
@@ -58,7 +39,19 @@ fn put_refused_change(
     ensures { OnOk result (IsAnswered refusal × (text.new.items ≡ text.old.items ++ answer_lines number (scripts.refusal refusal ∷ []))) }
 {
     begin_answer(text, number)?;
-    put_why(text, refusal)?;
+    match refusal {
+        ChangeRefusal::Names(why) => {
+            put_text(text, b" refused")?;
+            put_field(text, number_of(why))?;
+        }
+        ChangeRefusal::NoFile(_) => put_text(text, b" nofile")?,
+        ChangeRefusal::NoSpace { free, asked } => {
+            put_text(text, b" nospace")?;
+            put_field(text, free)?;
+            put_field(text, asked)?;
+        }
+        ChangeRefusal::Memory => return Err(AllocError),
+    }
     end_answer(text)
 }
 
