@@ -138,7 +138,7 @@ module _ (e : ThirdEvent) (w : ThirdWorld) (so : Sound w) (pe : People w) (st : 
           is : Some (HeardLeave (record { op = old.asks + 1; server = s })) ≡ Some (HeardLeave l) → record { op = old.asks + 1; server = s } ≡ l
           is q = cc q
       go (ClientGets k m found receiver) q = cc q
-      go (IsTold k ok m) q = absurd (none_not_some _ q)
+      go (IsTold k ok m found own) q = absurd (none_not_some _ q)
 
   asks_after : site.asks ≡ old.asks + length (new_asks c.0 e)
   asks_after = go why
@@ -151,7 +151,7 @@ module _ (e : ThirdEvent) (w : ThirdWorld) (so : Sound w) (pe : People w) (st : 
       go (IsAsked ask) = ap (λ o. old.asks + length (cons_option o [])) (sym (own_ask c ask))
       go (IsAskedToLeave s) = ap (λ o. old.asks + length (cons_option o [])) (sym (own_ask c (asks.Sync (no_file s))))
       go (ClientGets k m found receiver) = nothing old.asks
-      go (IsTold k ok m) = nothing old.asks
+      go (IsTold k ok m found own) = nothing old.asks
 
   others_asked : (n : ℕ) → n ≢ c.0 → (a : ℕ) → a ≡ a + length (new_asks n e)
   others_asked n ne a = go why
@@ -164,7 +164,7 @@ module _ (e : ThirdEvent) (w : ThirdWorld) (so : Sound w) (pe : People w) (st : 
       go (IsAsked ask) = nothing a ∙ ap (λ o. a + length (cons_option o [])) (sym (other_ask (record { 0 = n }) c ask ne))
       go (IsAskedToLeave s) = nothing a ∙ ap (λ o. a + length (cons_option o [])) (sym (other_ask (record { 0 = n }) c (asks.Sync (no_file s)) ne))
       go (ClientGets k m found receiver) = nothing a
-      go (IsTold k ok m) = nothing a
+      go (IsTold k ok m found own) = nothing a
 
   pub took_grows : AsksGrow e w V
   took_grows = record { sites = λ n new q. sites n new q (same_or_not n c.0); besides = λ n new q. besides n new q (same_or_not n c.0) }

@@ -14,6 +14,7 @@ use Words.Truth.{none_not_some, server_is}
 use Rattle.st_rules.specs.declared.client.ClientInput.TheVariants as inputs
 use Rattle.st_laws_steps.specs.Client.Losses.{Fit}
 use Rattle.st_laws_steps.specs.Lives.Lives.{Pairwise}
+use Rattle.st_laws_steps.proofs.Client.Losing.{is_done}
 use Rattle.st_laws_steps.proofs.Client.Stepping.{pairs_then}
 use Rattle.st_third.specs.declared.beside.Leave.{Leave}
 use Rattle.st_third.specs.declared.event.ThirdInput.{ThirdInput}
@@ -25,24 +26,38 @@ use Rattle.st_third.specs.Client as client
 use Rattle.st_third.specs.Leave as leaving
 use Rattle.st_third.specs.Replies.{receive, receive_at}
 use Rattle.st_third.specs.State.{Beside, ThirdClient, ThirdClientTurn, ThirdTurn, at_each, at_these, enter, leave, only_at, session, third_turn, with_none}
-use Rattle.st_laws_third.specs.Changes.{ArePending, Heard, HeardLeave, HeardMessage}
+use Rattle.st_laws_third.specs.Changes.{ArePending, Heard, HeardLeave, HeardMessage, heard_end}
 use Rattle.st_laws_third.specs.Living.{heard_in}
 use Rattle.st_laws_third.specs.Pairs.{IsPaired}
 use Rattle.st_laws_third.proofs.Finishing.{finishes, takes}
 use Rattle.st_laws_third.proofs.Leaving.{loses, takes_leave}
+use Rattle.st_laws_third.proofs.Living.{IsUnspoken, end_heard, nothing_heard}
 use Rattle.st_laws_third.proofs.Pairs as paired
 use Rattle.st_laws_third.proofs.Passing.{passes_change}
 use Rattle.st_laws_third.proofs.Receiving.{receives}
 use Rattle.st_laws_leaving.specs.Going.{AllNumbered, Apart, AtLeft, ClientsAreCalmUntilTheyAsk, EpochOf, HasBegunBy, IsNumbered, LeftsOf, OfMessage, OfSession, Went}
 use Rattle.st_laws_leaving.proofs.Going.{Goes, LeftWord, LeftsAt, at_left_then, changes_go, finishes_go, goes_still, loses_go, passes_go, same_leaves, went_then}
 
--- What was heard may be more.
-module _ (got : Heard) where
-  epoch_wider : (a : Association) (epoch : ℕ) → EpochOf None a epoch → EpochOf got a epoch
-  epoch_wider a epoch (OfSession s e q) = OfSession s e q
-  epoch_wider a epoch (OfMessage m h q) = absurd (none_not_some _ h.0)
+-- Where neither a message nor an ask to leave is heard, more may be.
+abbrev IsQuiet : Heard → Type 0
+IsQuiet got = IsUnspoken got × ((l : Leave) → got ≡ Some (HeardLeave l) → ⊥)
 
-  went_wider : (a : Association) (os : List ThirdOutput) (b : Association) → Went None a os b → Went got a os b
+none_quiet : IsQuiet None
+none_quiet = (nothing_heard, λ l e. absurd (none_not_some _ e))
+
+end_quiet : (number : ℕ) (ok : Bool) → IsQuiet (heard_end number ok)
+end_quiet number ok = (end_heard number ok, by ok)
+  where
+    by : (ok : Bool) (l : Leave) → heard_end number ok ≡ Some (HeardLeave l) → ⊥
+    by true l e = cc e
+    by false l e = cc e
+
+module _ (less got : Heard) (quiet : IsQuiet less) where
+  epoch_wider : (a : Association) (epoch : ℕ) → EpochOf less a epoch → EpochOf got a epoch
+  epoch_wider a epoch (OfSession s e q) = OfSession s e q
+  epoch_wider a epoch (OfMessage m h q) = absurd (quiet.0 m h.0)
+
+  went_wider : (a : Association) (os : List ThirdOutput) (b : Association) → Went less a os b → Went got a os b
   went_wider a os b w =
       record {
         server = w.server;
@@ -55,30 +70,30 @@ module _ (got : Heard) where
         begun = λ u e. begun b.life.0 (w.begun u e);
       }
     where
-      from : (m : Message) → (m.body ≡ bodies.Hello) ⊎ (EpochOf None a m.header.epoch) → (m.body ≡ bodies.Hello) ⊎ (EpochOf got a m.header.epoch)
+      from : (m : Message) → (m.body ≡ bodies.Hello) ⊎ (EpochOf less a m.header.epoch) → (m.body ≡ bodies.Hello) ⊎ (EpochOf got a m.header.epoch)
       from m (inl e) = inl e
       from m (inr e) = inr (epoch_wider a m.header.epoch e)
 
-      begun : (life : ℕ) → HasBegunBy None a life → HasBegunBy got a life
+      begun : (life : ℕ) → HasBegunBy less a life → HasBegunBy got a life
       begun life (inl z) = inl z
-      begun life (inr z) = absurd (none_not_some _ z.heard.0)
+      begun life (inr z) = absurd (quiet.0 z.message z.heard.0)
 
-      from_begun : (m : Message) → (m.body ≡ bodies.Hello) ⊎ (HasBegunBy None a m.header.life) → (m.body ≡ bodies.Hello) ⊎ (HasBegunBy got a m.header.life)
+      from_begun : (m : Message) → (m.body ≡ bodies.Hello) ⊎ (HasBegunBy less a m.header.life) → (m.body ≡ bodies.Hello) ⊎ (HasBegunBy got a m.header.life)
       from_begun m (inl e) = inl e
       from_begun m (inr z) = inr (begun m.header.life z)
 
-  pending_wider : (ls ms : List Leave) → ArePending None ls ms → ArePending got ls ms
+  pending_wider : (ls ms : List Leave) → ArePending less ls ms → ArePending got ls ms
   pending_wider ls ms p l h = go (p l h)
     where
-      go : (Has l ls) ⊎ (◌≡◌ {A = Heard} None (Some (HeardLeave l))) → (Has l ls) ⊎ (got ≡ Some (HeardLeave l))
+      go : (Has l ls) ⊎ (less ≡ Some (HeardLeave l)) → (Has l ls) ⊎ (got ≡ Some (HeardLeave l))
       go (inl i) = inl i
-      go (inr e) = absurd (none_not_some _ e)
+      go (inr e) = absurd (quiet.1 l e)
 
-  lefts_wider : (ls : List Leave) (a : Association) (before os : List ThirdOutput) → LeftsAt None ls a before os → LeftsAt got ls a before os
+  lefts_wider : (ls : List Leave) (a : Association) (before os : List ThirdOutput) → LeftsAt less ls a before os → LeftsAt got ls a before os
   lefts_wider ls a before [] l = tt
   lefts_wider ls a before (o ∷ os) l = (word o l.0, lefts_wider ls a (before ++ o ∷ []) os l.1)
     where
-      left : (op : ℕ) → AtLeft None ls a before op → AtLeft got ls a before op
+      left : (op : ℕ) → AtLeft less ls a before op → AtLeft got ls a before op
       left op x =
           record {
             middle = x.middle;
@@ -92,17 +107,17 @@ module _ (got : Heard) where
             of_server = x.of_server;
           }
         where
-          at : (Has x.leave ls) ⊎ (◌≡◌ {A = Heard} None (Some (HeardLeave x.leave))) → (Has x.leave ls) ⊎ (got ≡ Some (HeardLeave x.leave))
+          at : (Has x.leave ls) ⊎ (less ≡ Some (HeardLeave x.leave)) → (Has x.leave ls) ⊎ (got ≡ Some (HeardLeave x.leave))
           at (inl i) = inl i
-          at (inr e) = absurd (none_not_some _ e)
+          at (inr e) = absurd (quiet.1 x.leave e)
 
-      word : (p : ThirdOutput) → LeftWord None ls a before p → LeftWord got ls a before p
+      word : (p : ThirdOutput) → LeftWord less ls a before p → LeftWord got ls a before p
       word (says.Left op) x = left op x
       word (says.Plain x) y = tt
       word (says.Unsynced op ino) y = tt
       word (says.Ended s life end) y = tt
 
-  goes_wider : (t u : ThirdTurn) → Goes None t u → Goes got t u
+  goes_wider : (t u : ThirdTurn) → Goes less t u → Goes got t u
   goes_wider t u g =
       record {
         id = g.id;
@@ -455,11 +470,13 @@ module _ (got : Heard) where
     takes_plainly : (input : ClientInput) → got ≡ heard_in (third.Plain input) → Moves t (client.take_plain k t now input)
     unfolding client.take_plain client.app client.done
     takes_plainly inputs.Tick e = stays
-    takes_plainly (inputs.App op ask) e = asks op _ _ (λ u i g m. goes_wider got u _ (changes_go None now u _ (takes now op ask u) m))
+    takes_plainly (inputs.App op ask) e = asks op _ _ (λ u i g m. goes_wider None got none_quiet u _ (changes_go None now u _ (takes now op ask u) m))
     takes_plainly (inputs.Control message) e = hears message.header message.body e
     takes_plainly (inputs.Done number result) e =
-        each_moves k (client.finish number result) (λ u g m. goes_wider got u _ (finishes_go None now number _ u _ (finishes now number u result) refl m)) t p f
-        n x
+        each_moves k (client.finish number result)
+        (λ u g m. goes_wider (heard_end number (is_done result)) got (end_quiet number (is_done result)) u _
+        (finishes_go _ now number _ u _ (finishes now number u result) refl m))
+        t p f n x
 
     -- an ask to leave, at its server
     asked : (op : ℕ) (s : ServerId) → got ≡ heard_in (third.Leave op s) → (u : ThirdTurn) → is_at s u.plain.here ≡ true → IsNumbered (session u) →
@@ -482,14 +499,14 @@ clients_are_calm_until_they_ask m c now input p f n x =
     let u : ThirdClientTurn = client.losses m t now in
     let v : ThirdClientTurn = client.take_input m u now input in
     let w : ThirdClientTurn = client.work m v now input in
-    let a : Moves got t u = each_moves got m (leaving.lose now) (λ y g k. goes_wider got y _ (loses_go None now y _ (loses y) refl k)) t p f n x in
+    let a : Moves got t u = each_moves got m (leaving.lose now) (λ y g k. goes_wider None got none_quiet y _ (loses_go None now y _ (loses y) refl k)) t p f n x in
     let pu : IsPaired u.client = (paired.each_stays m (leaving.lose now) t p).paired in
     let b : Moves got u v = takes_it got now m u pu a.fit (numbered_on got t u a) (apart_after got t u a x) input refl in
     let pv : IsPaired v.client = (paired.input_stays m u now input pu).paired in
     let xv : Apart v.client.plain.associations = apart_after got u v b (apart_after got t u a x) in
     let d : Moves got v w =
     each_moves got m (client.third_passes now (client.is_tick input))
-    (λ y g k. goes_wider got y _ (passes_go None now y _ (passes_change now (client.is_tick input) y) refl k)) v pv b.fit (numbered_on got u v b) xv
+    (λ y g k. goes_wider None got none_quiet y _ (passes_go None now y _ (passes_change now (client.is_tick input) y) refl k)) v pv b.fit (numbered_on got u v b) xv
     in
     let all : Moves got t w = moves_then got t u w a (moves_then got u v w b d) in
     record {

@@ -29,7 +29,7 @@ use Rattle.st_third.specs.State.{ThirdTurn, all_said, here, plain_output, plainl
 use Rattle.st_third.specs.UsedOnce.{reduced}
 use Rattle.st_laws_third.specs.Changes.{AsksRight, Bounds, Continues, EpochFrom, HasLeave, Heard, NewerEpoch, SameEpoch, Sends, Greets, Sees, Asks}
 use Rattle.st_laws_third.specs.Changes.{ArePending, ThirdChange, Plainly, Says, Leaves, IsBeside, WaitsForRoom, Begins, GivesBack, Reduces, bounds}
-use Rattle.st_laws_third.specs.Changes.{ThirdChanges, Still, Then, ThirdFinishes, ThirdLeaves, HasLeft, Stays, ThirdLoses, IsLost, Lasts, ThirdPasses, with_plain}
+use Rattle.st_laws_third.specs.Changes.{ThirdChanges, Still, Then, ThirdFinishes, ThirdLeaves, HasLeft, Stays, ThirdLoses, IsLost, Lasts, ThirdPasses, heard_end, with_plain}
 use Rattle.st_laws_third.proofs.Facts.{SaysMore, WordRight, change_says, change_third}
 use Rattle.st_laws_third.proofs.Stepping.{same_session}
 use Rattle.st_laws_leaving.specs.Going.{AtLeft, EpochOf, HasBegunBy, IsNumbered, IsWelcomed, OfMessage, OfSession, SentWell, Unasked, Went}
@@ -446,7 +446,7 @@ module _ (got : Heard) where
 
   -- words at a turn, and then a change of its session
   goes_by : (t u : ThirdTurn) → u.plain.id ≡ t.plain.id → (Fit t.plain.here → Fit u.plain.here) → ArePending got t.leaves u.leaves → IsNumbered (session t) →
-      SaysMore t u → Went got t.plain.here [] u.plain.here → Goes t u
+      SaysMore (bounds got t) t u → Went got t.plain.here [] u.plain.here → Goes t u
   goes_by t u i f l n w o =
       record {
         id = i;
@@ -592,7 +592,8 @@ module _ (got : Heard) where
         (append-nil (all_said t ++ says.Ended (here t) t.plain.here.life _ ∷ [])) tt)
         (emptied_goes _)
 
-    pub finishes_go : (number : ℕ) (ok : Bool) (t u : ThirdTurn) → ThirdFinishes now number ok t u → got ≡ None → IsNumbered (session t) → Goes t u
+    pub finishes_go : (number : ℕ) (ok : Bool) (t u : ThirdTurn) → ThirdFinishes now number ok t u → got ≡ heard_end number ok → IsNumbered (session t) →
+        Goes t u
     unfolding plain.hardened
     finishes_go number ok t u f q n =
         let m : Turn = f.middle in

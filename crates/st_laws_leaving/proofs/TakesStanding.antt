@@ -87,7 +87,7 @@ module _ (e : ThirdEvent) (w : ThirdWorld) (so : Sound w) (pe : People w) (st : 
         where
           is : Some (HeardMessage x.message) ≡ Some (HeardMessage m) → x.message ≡ m
           is q = cc q
-      go (IsTold k ok x) q = absurd (none_not_some _ q)
+      go (IsTold k ok x found own) q = absurd (none_not_some _ q)
 
   -- At one server.
   module _ (a d : Association) (node : ServerNode) (h : Has a site.node.state.associations) (x : Went got a Turn.out d)

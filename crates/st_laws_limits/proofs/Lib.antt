@@ -1,7 +1,11 @@
+mod FailedPages
+mod FailedChanges
 mod RisingLists
 mod Pending
 mod PendingPasses
 mod PendingSteps
+mod FaultCauses
+mod FaultRuns
 mod PendingRuns
 mod Files
 mod ServerFiles

@@ -47,7 +47,7 @@ module _ (m : Limits) (rule : ThirdTurn → ThirdTurn) (one : (t : ThirdTurn) �
       let x = f.operations in let y = f.leaves in
       let z = these_wait as_ bs (leave t (rule (enter m t a b))) in omega (arith, x, y, z)
 
-  each_waits : (t : ThirdClientTurn) → waiting (at_each m rule t).client ≤ waiting t.client
+  pub each_waits : (t : ThirdClientTurn) → waiting (at_each m rule t).client ≤ waiting t.client
   unfolding at_each
   each_waits t = these_wait t.client.plain.associations t.client.beside.besides (record t { client = state.with_none t.client })
 

@@ -29,7 +29,7 @@ use Rattle.st_third.specs.Server as serving
 use Rattle.st_third.specs.State.{ClientBeside, ThirdClientTurn}
 use Rattle.st_third.specs.World.{ThirdWorld, beside_of, receiver_of}
 use Rattle.st_trace.specs.Server.Steps.{step_of}
-use Rattle.st_laws_third.specs.Changes.{EpochFrom, GoesOnBy, Heard, HeardLeave, HeardMessage, Hears, IsDemanded, IsGranted, LockFrom, NewerEpoch, SameEpoch, WasHeld, locks_in}
+use Rattle.st_laws_third.specs.Changes.{EpochFrom, GoesOnBy, Heard, HeardFailure, HeardLeave, HeardMessage, Hears, IsDemanded, IsGranted, LockFrom, NewerEpoch, SameEpoch, WasHeld, locks_in}
 use Rattle.st_laws_third.specs.Living.{ClientLivesOn, HasSession, IsOfOne, LastsUnlessTold, LivesOn, heard_in}
 use Rattle.st_laws_third.proofs.DemandsSeen.{People}
 use Rattle.st_laws_third.proofs.EventWalk.{IsMail, heard_by}
@@ -101,6 +101,7 @@ mail_is : (w : ThirdWorld) (n : NodeId) (got : Heard) → IsMail w n got → (m 
     (x : SentMessage) × (Has x w.world.net.messages) × (x.message ≡ m) × (receiver_of w.world x ≡ n)
 mail_is w n None mail m e = absurd (cc)
 mail_is w n (Some (HeardLeave y)) mail m e = absurd (cc)
+mail_is w n (Some (HeardFailure y)) mail m e = absurd (cc)
 mail_is w n (Some (HeardMessage y)) (x, h, i, r) m e = let q : y ≡ m = cc in (x, h, i ∙ q, r)
 
 -- the client for whom a message is

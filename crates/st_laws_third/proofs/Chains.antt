@@ -2,6 +2,7 @@
 use Rattle.st_lemmas.proofs.Words
 use Words.{◌≡◌, ℕ, Bool, true, false, List, [], ◌∷◌, ◌++◌, Option, Some, None, map, refl, subst, inl, inr, if◌then◌else◌, append_assoc, filter}
 use Words.{◌≤◌, arith, length, AppAnswer, Ask, CleanPage, HeldLock, Operation, Output, Request, Stamp}
+use Words.answers
 use Words.asks
 use Words.Client as cl
 use Words.ClientPages as pages
@@ -20,7 +21,7 @@ use Rattle.st_third.specs.declared.beside.Leave.{Leave}
 use Rattle.st_third.specs.declared.output.ThirdOutput.TheVariants as says
 use Rattle.st_third.specs.State as third
 use Rattle.st_third.specs.State.{ThirdTurn, plainly}
-use Rattle.st_laws_third.specs.Changes.{ThirdChange, ThirdChanges, ArePending, Bounds, Continues, GoesOnBy, Heard, IsRun, SameEpoch, Still, Then, WasHeld}
+use Rattle.st_laws_third.specs.Changes.{ThirdChange, ThirdChanges, AnswersRight, ArePending, Bounds, Continues, GoesOnBy, Heard, HeardFailure, IsRun, SameEpoch, Still, Then, WasHeld}
 use Rattle.st_laws_third.specs.Changes.{Plainly, Says, Leaves, bounds, with_plain}
 
 pub one : {got : Heard} {now : Stamp} {t u : ThirdTurn} → ThirdChange got now t u → ThirdChanges got now t u
@@ -82,12 +83,12 @@ newest_few most c xs = omega (arith, length-take most (c ∷ pages.without_clean
 
 -- Answers.
 module _ {within : Bounds} {now : Stamp} where
-  pub old_answer : (t : Turn) (op : ℕ) (a : AppAnswer) → Old within now t (cs.answered t op a)
-  old_answer t op a = old_one (client.Says t (outputs.Answer op a) tt) tt
+  pub old_answer : (t : Turn) (op : ℕ) (a : AppAnswer) → AnswersRight within t a → Old within now t (cs.answered t op a)
+  old_answer t op a r = old_one (client.Says t (outputs.Answer op a) tt) r
 
-  pub old_answers : (picked : Operation → Bool) (a : AppAnswer) (t : Turn) → Old within now t (cs.answer_each picked a t)
+  pub old_answers : (picked : Operation → Bool) (a : AppAnswer) (t : Turn) → AnswersRight within t a → Old within now t (cs.answer_each picked a t)
   unfolding cs.answer_each
-  old_answers picked a t = old_one (client.Answers t _ _ a) tt
+  old_answers picked a t r = old_one (client.Answers t _ _ a) r
 
   pub old_keeps : (t : Turn) (o : Operation) → Old within now t (cs.keep o t)
   old_keeps t o = old_one (client.Operates t _) tt
@@ -95,16 +96,18 @@ module _ {within : Bounds} {now : Stamp} where
   -- lost pages are told
   old_tells : (t : Turn) (op ino : ℕ) → Old within now t (cl.tell_lost t op ino)
   unfolding cl.tell_lost
-  old_tells t op ino = old_both (old_one (client.TellsLost t (pages.untold t.here.lost ino)) tt) (old_answer _ op _)
+  old_tells t op ino =
+      old_both (old_one (client.TellsLost t (pages.untold t.here.lost ino)) tt) (old_answer _ op (answers.Lost (pages.told_rows t.here.lost ino)) tt)
 
   -- an operation ends with its session
   pub old_ends : (s : ClientSession) (o : Operation) (t : Turn) → Old within now t (cl.end_operation t s o)
   unfolding cl.end_operation cl.end_unsent cl.end_sync
-  old_ends s o t = old_either (cs.is_sent o) t _ _ (λ e. old_answer t o.op _) (λ e. unsent o.ask)
+  old_ends s o t = old_either (cs.is_sent o) t _ _ (λ e. old_answer t o.op (answers.Uncertain s.epoch.0 0) tt) (λ e. unsent o.ask)
     where
       unsent : (a : Ask) → Old within now t (cl.end_unsent t o a)
-      unsent (asks.Sync f) = old_either (pages.has_lost t.here.lost f.ino) t _ _ (λ e. old_tells t o.op f.ino) (λ e. old_answer t o.op _)
-      unsent a = old_answer t o.op _
+      unsent (asks.Sync f) =
+          old_either (pages.has_lost t.here.lost f.ino) t _ _ (λ e. old_tells t o.op f.ino) (λ e. old_answer t o.op answers.Quiesced tt)
+      unsent a = old_answer t o.op answers.Quiesced tt
 
   -- an ask
   pub old_takes : (op : ℕ) (ask : Ask) (t : Turn) → Old within now t (cl.take_ask op ask t)
@@ -149,25 +152,28 @@ follows t s u e a g = by_rule t (with_session u) (old_one (client.Follows t.plai
 pub fewer_leaves : {got : Heard} (ls : List Leave) (p : Leave → Bool) → ArePending got ls (filter p ls)
 fewer_leaves ls p l h = inl (has_filter p ls l h).0
 
-pub leave_answered : {got : Heard} {now : Stamp} (answer : AppAnswer) (l : Leave) (t : ThirdTurn) → ThirdChanges got now t (third.answer_leave answer l t)
+pub leave_quiesced : {got : Heard} {now : Stamp} (l : Leave) (t : ThirdTurn) → ThirdChanges got now t (third.answer_leave answers.Quiesced l t)
 unfolding third.answer_leave
-leave_answered answer l t = both (one (Leaves t _ (fewer_leaves t.leaves _)))
-    (one (Says (third.without_leave l t) (says.Plain (outputs.Answer l.op answer)) tt))
+leave_quiesced l t = both (one (Leaves t _ (fewer_leaves t.leaves _)))
+    (one (Says (third.without_leave l t) (says.Plain (outputs.Answer l.op answers.Quiesced)) tt))
 
-numbers_said : (within : Bounds) (now : Stamp) (answer : AppAnswer) (ns : List ℕ) (u : Turn) → Old within now u (third.answer_numbers answer ns u)
-numbers_said within now answer [] u = subst (λ os. Old within now u (record u { out = os })) (nothing_after u.out) (old_still u)
-numbers_said within now answer (n ∷ ns) u =
-    let o : Output = outputs.Answer n answer in
-    old_both (old_one (client.Says u o tt) tt)
-    (subst (λ os. Old within now (cs.say u o) (record u { out = os })) (append_assoc u.out (o ∷ []) (map (third.answer_number answer) ns))
-    (numbers_said within now answer ns (cs.say u o)))
+numbers_fault : (within : Bounds) (now : Stamp) (number : ℕ) → within.heard ≡ Some (HeardFailure number) → (ns : List ℕ) (u : Turn) →
+    Old within now u (third.answer_numbers (answers.DiskFault number) ns u)
+numbers_fault within now number e [] u = subst (λ os. Old within now u (record u { out = os })) (nothing_after u.out) (old_still u)
+numbers_fault within now number e (n ∷ ns) u =
+    let o : Output = outputs.Answer n (answers.DiskFault number) in
+    old_both (old_one (client.Says u o tt) e)
+    (subst (λ os. Old within now (cs.say u o) (record u { out = os })) (append_assoc u.out (o ∷ []) (map (third.answer_number (answers.DiskFault number)) ns))
+    (numbers_fault within now number e ns (cs.say u o)))
 
-pub answered_with_leaves : {got : Heard} {now : Stamp} (picked : Operation → Bool) (answer : AppAnswer) (t : ThirdTurn) →
-    ThirdChanges got now t (third.answer_with_leaves picked answer t)
+-- operations and leaves are told that a command failed
+pub fault_with_leaves : {now : Stamp} (picked : Operation → Bool) (number : ℕ) (t : ThirdTurn) →
+    ThirdChanges (Some (HeardFailure number)) now t (third.answer_with_leaves picked (answers.DiskFault number) t)
 unfolding third.answer_with_leaves
-answered_with_leaves {got} {now} picked answer t =
+fault_with_leaves {now} picked number t =
+    let got : Heard = Some (HeardFailure number) in
     let u : ThirdTurn = third.without_picked picked t in
     let ns : List ℕ = third.numbers_picked picked t in
     both (as_plain t u.plain (old_one (client.Operates t.plain u.plain.operations) tt))
     (both (one (Leaves (with_plain u.plain t) u.leaves (fewer_leaves t.leaves _)))
-    (by_rule u (third.answer_numbers answer ns) (numbers_said (bounds got t) now answer ns u.plain)))
+    (by_rule u (third.answer_numbers (answers.DiskFault number) ns) (numbers_fault (bounds got t) now number refl ns u.plain)))

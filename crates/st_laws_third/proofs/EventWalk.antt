@@ -43,7 +43,8 @@ pub data ClientTakes (w : ThirdWorld) (c : ClientId) (old : WorldClient) : Third
   IsAskedToLeave : (s : ServerId) → ClientTakes w c old (third.Leave c s) (ev.asked_once_more old) (takes.Leave (old.asks + 1) s)
   ClientGets : (k : ℕ) (m : SentMessage) → message_of w.world k ≡ Some m → receiver_of w.world m ≡ nodes.Client c →
       ClientTakes w c old (third.Plain (events.Deliver k)) old (takes.Plain (inputs.Control m.message))
-  IsTold : (k : ℕ) (ok : Bool) (x : IssuedCommand) → ClientTakes w c old (third.Plain (events.Report k ok)) old (takes.Plain (ev.end_told w.world k ok x))
+  IsTold : (k : ℕ) (ok : Bool) (x : IssuedCommand) → issued_of w.world k ≡ Some x → x.client ≡ c →
+      ClientTakes w c old (third.Plain (events.Report k ok)) old (takes.Plain (ev.end_told w.world k ok x))
 
 -- How it makes a server take one.
 pub data ServerTakes (w : ThirdWorld) (s : ServerId) : ThirdEvent → ServerInput → Type 0 where
@@ -144,16 +145,16 @@ module _ (e : ThirdEvent) (P : ThirdWorld → ThirdWorldTurn → Type 0) (law : 
         at_client c _ (site_of w.world c) refl (λ old. subst (λ x. ClientTakes w c old x old (takes.Plain inputs.Tick)) (sym i) ClientTicks)
     ticks (nodes.Server s) i = at_server s _ (node_of w.world s) refl (subst (λ x. ServerTakes w s x serving.Tick) (sym i) ServerTicks)
 
-    tells : (k : ℕ) (ok : Bool) → e ≡ third.Plain (events.Report k ok) → (c : Option IssuedCommand) → P w (every.tells w k ok c)
+    tells : (k : ℕ) (ok : Bool) → e ≡ third.Plain (events.Report k ok) → (c : Option IssuedCommand) → issued_of w.world k ≡ c → P w (every.tells w k ok c)
     unfolding every.tells every.tells_client every.tells_site
-    tells k ok i None = law.still w
-    tells k ok i (Some c) = go (site_of w.world c.client) refl
+    tells k ok i None found = law.still w
+    tells k ok i (Some c) found = go (site_of w.world c.client) refl
       where
         by_instance : (site : WorldClient) → site_of w.world c.client ≡ Some site → (b : Bool) →
             P w (if b then every.client_takes w c.client (takes.Plain (ev.end_told w.world k ok c)) site else unseen w)
         by_instance site q true =
             takes_it c.client site site q refl _
-            (subst (λ x. ClientTakes w c.client site x site (takes.Plain (ev.end_told w.world k ok c))) (sym i) (IsTold k ok c))
+            (subst (λ x. ClientTakes w c.client site x site (takes.Plain (ev.end_told w.world k ok c))) (sym i) (IsTold k ok c found refl))
         by_instance site q false = law.still w
 
         go : (site : Option WorldClient) → site_of w.world c.client ≡ site → P w (every.tells_client w k ok c site)
@@ -238,7 +239,7 @@ module _ (e : ThirdEvent) (P : ThirdWorld → ThirdWorldTurn → Type 0) (law : 
       go (third.Plain (events.Heal from to)) i = law.heals w from to
       go (third.Plain (events.Advance steps)) i = law.advances w steps
       go (third.Plain (events.Effect k)) i = law.effects w k
-      go (third.Plain (events.Report k ok)) i = law.reports w k ok _ i (tells (every.with_report k ok w) f k ok i (issued_of w.world k))
+      go (third.Plain (events.Report k ok)) i = law.reports w k ok _ i (tells (every.with_report k ok w) f k ok i (issued_of w.world k) refl)
       go (third.Plain (events.Crash n)) i = crashes w f n
       go (third.Plain (events.Start n)) i = starts w f n i
 
@@ -290,7 +291,7 @@ client_mail w c old site e input ClientTicks = tt
 client_mail w c old site e input (IsAsked ask) = tt
 client_mail w c old site e input (IsAskedToLeave s) = tt
 client_mail w c old site e input (ClientGets k m q r) = (m, numbered_has w.world.net.messages k m q, refl, r)
-client_mail w c old site e input (IsTold k ok x) = tt
+client_mail w c old site e input (IsTold k ok x found own) = tt
 
 server_mail : (w : ThirdWorld) (s : ServerId) (e : ThirdEvent) (input : ServerInput) → ServerTakes w s e input → IsMail w (nodes.Server s) (heard_by input)
 server_mail w s e input ServerTicks = tt

@@ -2,7 +2,7 @@
 -- far, and a session whose lease isn't older than before or was dated by a fresh welcome.
 use Rattle.st_lemmas.proofs.Words
 use Words.{◌≡◌, ◌⊎◌, ℕ, true, List, [], ◌∷◌, ◌++◌, Option, Some, None, map, refl, sym, ap, ◌∙◌, subst, inl, inr, arith, append_assoc, map-append}
-use Words.{Config, DemandedFile, GrantNo, HeldLock, Mode, Output, PageNo, Stamp}
+use Words.{AppAnswer, Config, DemandedFile, GrantNo, HeldLock, Mode, Output, PageNo, Stamp}
 use Words.{Body, Message}
 use Words.bodies
 use Words.modes
@@ -29,7 +29,7 @@ use Rattle.st_third.specs.State.{ThirdTurn, all_said, plain_output, session}
 use Rattle.st_third.specs.UsedOnce.{reduced}
 use Rattle.st_laws_third.specs.Changes.{ThirdChange, ThirdChanges, Bounds, Continues, Still, Then, Plainly, Says, Leaves, IsBeside, WaitsForRoom, Begins, GivesBack}
 use Rattle.st_laws_third.specs.Changes.{Reduces, bounds, with_plain}
-use Rattle.st_laws_third.specs.Changes.{HasLeave, Heard, PlainWord, Sends, SendsRight, Greets, Sees, Asks}
+use Rattle.st_laws_third.specs.Changes.{AnswersRight, HasLeave, Heard, PlainWord, SaysRight, Sends, SendsRight, Greets, Sees, Asks}
 use Rattle.st_laws_third.specs.Sessions.{AllFine, Dates, NoDemand, RequestFine, SessionFine, WordFine}
 
 -- Dates
@@ -123,20 +123,27 @@ plain_said t u more e =
     ∙ sym (append_assoc t.said (map plain_output t.plain.out) (map plain_output more))
 
 -- what a change says
-record Spoken (t u : Turn) (k : Type 0) : Type 0 where
+record Spoken (within : Bounds) (t u : Turn) (k : Type 0) : Type 0 where
   more : List Output
   out : u.out ≡ t.out ++ more
-  right : k → (o : Output) → Has o more → SendsRight t o
+  right : k → (o : Output) → Has o more → SaysRight within t o
 
-silent : (t u : Turn) (k : Type 0) → u.out ≡ t.out → Spoken t u k
-silent t u k e = record { more = []; out = e ∙ nothing_after t.out; right = λ x o h. absurd h }
+silent : (within : Bounds) (t u : Turn) (k : Type 0) → u.out ≡ t.out → Spoken within t u k
+silent within t u k e = record { more = []; out = e ∙ nothing_after t.out; right = λ x o h. absurd h }
 
-one_word : (t u : Turn) (k : Type 0) (o : Output) → u.out ≡ t.out ++ o ∷ [] → (k → SendsRight t o) → Spoken t u k
-one_word t u k o e f = record { more = o ∷ []; out = e; right = λ x y h. one x y h }
+one_word : (within : Bounds) (t u : Turn) (k : Type 0) (o : Output) → u.out ≡ t.out ++ o ∷ [] → (k → SaysRight within t o) → Spoken within t u k
+one_word within t u k o e f = record { more = o ∷ []; out = e; right = λ x y h. one x y h }
   where
-    one : k → (y : Output) → Has y (o ∷ []) → SendsRight t y
-    one x y (inl q) = subst (SendsRight t) (sym q) (f x)
+    one : k → (y : Output) → Has y (o ∷ []) → SaysRight within t y
+    one x y (inl q) = subst (SaysRight within t) (sym q) (f x)
     one x y (inr i) = absurd i
+
+-- what is right to say is right to send
+sends_right : (within : Bounds) (t : Turn) (o : Output) → SaysRight within t o → SendsRight t o
+sends_right within t (outputs.Send m) r = r
+sends_right within t (outputs.Submit number at what) r = tt
+sends_right within t (outputs.Answer op a) r = tt
+sends_right within t (outputs.Note n) r = tt
 
 sent_fine : (t : Turn) (m : Message) → Sends t m → SessionFine t.here.session → NoDemand m.body
 sent_fine t _ (Greets stamp) f = tt
@@ -149,26 +156,26 @@ said_fine t (outputs.Submit number at what) s f = tt
 said_fine t (outputs.Answer op a) s f = tt
 said_fine t (outputs.Note n) s f = tt
 
-spoken : (within : Bounds) (now : Stamp) (t u : Turn) (c : client.Change now t u) → Spoken t u (Continues within now t u c)
+spoken : (within : Bounds) (now : Stamp) (t u : Turn) (c : client.Change now t u) → Spoken within t u (Continues within now t u c)
 unfolding passes.submit_read passes.submit_write passes.submit_command
-spoken within now t _ (client.Says _ o p) = one_word t _ _ o refl (λ k. k)
-spoken within now t _ (client.Operates _ os) = silent t _ _ refl
+spoken within now t _ (client.Says _ o p) = one_word within t _ _ o refl (λ k. k)
+spoken within now t _ (client.Operates _ os) = silent within t _ _ refl
 spoken within now t _ (client.Answers _ os ops a) =
     record {
       more = map (answer_to a) ops;
       out = refl;
-      right = λ k o h. let z = has_map (answer_to a) ops o h in subst (SendsRight t) (sym z.2) tt;
+      right = λ k o h. let z = has_map (answer_to a) ops o h in subst (SaysRight within t) (sym z.2) k;
     }
-spoken within now t _ (client.Greets _ g) = silent t _ _ refl
-spoken within now t _ (client.TellsLost _ lost) = silent t _ _ refl
-spoken within now t _ (client.Begins _ s a b c) = silent t _ _ refl
-spoken within now t _ (client.Follows _ s u e g) = silent t _ _ refl
-spoken within now t _ (client.Learns _ e u h) = silent t _ _ refl
-spoken within now t _ (client.Forgets _ ino p i) = silent t _ _ refl
-spoken within now t _ (client.Caches _ clean) = silent t _ _ refl
-spoken within now t _ (client.Writes _ s f p bytes x sv own m h i) = one_word t _ _ (outputs.Note x) refl (λ k. tt)
-spoken within now t _ (client.Reads _ ino p m i clean) = one_word t _ _ _ refl (λ k. tt)
-spoken within now t _ (client.Submits _ s ino p d m e i k w) = one_word t _ _ _ refl (λ k. tt)
+spoken within now t _ (client.Greets _ g) = silent within t _ _ refl
+spoken within now t _ (client.TellsLost _ lost) = silent within t _ _ refl
+spoken within now t _ (client.Begins _ s a b c) = silent within t _ _ refl
+spoken within now t _ (client.Follows _ s u e g) = silent within t _ _ refl
+spoken within now t _ (client.Learns _ e u h) = silent within t _ _ refl
+spoken within now t _ (client.Forgets _ ino p i) = silent within t _ _ refl
+spoken within now t _ (client.Caches _ clean) = silent within t _ _ refl
+spoken within now t _ (client.Writes _ s f p bytes x sv own m h i) = one_word within t _ _ (outputs.Note x) refl (λ k. tt)
+spoken within now t _ (client.Reads _ ino p m i clean) = one_word within t _ _ _ refl (λ k. tt)
+spoken within now t _ (client.Submits _ s ino p d m e i k w) = one_word within t _ _ _ refl (λ k. tt)
 
 -- what may be asked isn't a demand
 may_fine : (s : ClientSession) (cutting : Option ℕ) (b : Body) → MayAsk s cutting b → NoDemand b
@@ -216,7 +223,7 @@ plain_next within now t u c k =
       more = map plain_output w.more;
       said = plain_said t u w.more w.out;
       asks = asks_fine within now t.plain u c k;
-      quiet = λ f o h. let z = has_map plain_output w.more o h in subst WordFine (sym z.2) (said_fine t.plain z.0 (w.right k z.0 z.1) f);
+      quiet = λ f o h. let z = has_map plain_output w.more o h in subst WordFine (sym z.2) (said_fine t.plain z.0 (sends_right within t.plain z.0 (w.right k z.0 z.1)) f);
     }
 
 -- A change of the session alone.
@@ -271,10 +278,10 @@ reduced_next now t s d ino e i = held (locks.lock_of s.locks d.ino)
 -- Changes
 
 -- a word of the third form isn't a message
-said_word : (t : ThirdTurn) (o : ThirdOutput) → PlainWord t o → (x : ThirdOutput) → Has x (o ∷ []) → WordFine x
-said_word t o w x (inl e) = subst WordFine (sym e) (word o w)
+said_word : (got : Heard) (t : ThirdTurn) (o : ThirdOutput) → PlainWord got t o → (x : ThirdOutput) → Has x (o ∷ []) → WordFine x
+said_word got t o w x (inl e) = subst WordFine (sym e) (word o w)
   where
-    word : (o : ThirdOutput) → PlainWord t o → WordFine o
+    word : (o : ThirdOutput) → PlainWord got t o → WordFine o
     word (says.Plain (outputs.Send m)) w = absurd w
     word (says.Plain (outputs.Submit number at what)) w = tt
     word (says.Plain (outputs.Answer op a)) w = tt
@@ -282,7 +289,7 @@ said_word t o w x (inl e) = subst WordFine (sym e) (word o w)
     word (says.Left op) w = tt
     word (says.Unsynced op ino) w = tt
     word (says.Ended s life end) w = tt
-said_word t o w x (inr i) = absurd i
+said_word got t o w x (inr i) = absurd i
 
 pub change_third : {got : Heard} (now : Stamp) (t u : ThirdTurn) → ThirdChange got now t u → ThirdNext now t u
 unfolding Rattle.st_third.specs.State.say Rattle.st_third.specs.State.plainly
@@ -299,7 +306,7 @@ change_third {got} now t _ (Says _ o w) =
       said =
           sym (nothing_after (all_said t ++ o ∷ []));
       asks = λ f. f;
-      quiet = λ f x h. said_word t o w x h;
+      quiet = λ f x h. said_word got t o w x h;
     }
 change_third {got} now t _ (Leaves _ ls k) =
     record {
@@ -376,35 +383,44 @@ WordRight t (says.Ended s life end) = ⊥
 WordRight t o = Unit {0}
 
 -- the words that a change says, and no others
-pub record SaysMore (t u : ThirdTurn) : Type 0 where
+pub record SaysMore (within : Bounds) (t u : ThirdTurn) : Type 0 where
   pub more : List ThirdOutput
   pub said : all_said u ≡ all_said t ++ more
   pub right : (o : ThirdOutput) → Has o more → WordRight t.plain o
   pub left : (op : ℕ) → Has (says.Left op) more → HasLeave t op
+  pub answers : (op : ℕ) (a : AppAnswer) → Has (says.Plain (outputs.Answer op a)) more → AnswersRight within t.plain a
 
-says_none : (t u : ThirdTurn) → all_said u ≡ all_said t → SaysMore t u
-says_none t u e = record { more = []; said = e ∙ nothing_after (all_said t); right = λ o h. absurd h; left = λ op h. absurd h }
+says_none : (within : Bounds) (t u : ThirdTurn) → all_said u ≡ all_said t → SaysMore within t u
+says_none within t u e =
+    record { more = []; said = e ∙ nothing_after (all_said t); right = λ o h. absurd h; left = λ op h. absurd h; answers = λ op a h. absurd h }
 
-word_right : (t : ThirdTurn) (o : ThirdOutput) → PlainWord t o → WordRight t.plain o
-word_right t (says.Plain (outputs.Send m)) w = absurd w
-word_right t (says.Plain (outputs.Submit number at what)) w = tt
-word_right t (says.Plain (outputs.Answer op a)) w = tt
-word_right t (says.Plain (outputs.Note n)) w = tt
-word_right t (says.Left op) w = tt
-word_right t (says.Unsynced op ino) w = tt
-word_right t (says.Ended s life end) w = w
+word_right : (got : Heard) (t : ThirdTurn) (o : ThirdOutput) → PlainWord got t o → WordRight t.plain o
+word_right got t (says.Plain (outputs.Send m)) w = absurd w
+word_right got t (says.Plain (outputs.Submit number at what)) w = tt
+word_right got t (says.Plain (outputs.Answer op a)) w = tt
+word_right got t (says.Plain (outputs.Note n)) w = tt
+word_right got t (says.Left op) w = tt
+word_right got t (says.Unsynced op ino) w = tt
+word_right got t (says.Ended s life end) w = w
 
-pub change_says : {got : Heard} (now : Stamp) (t u : ThirdTurn) → ThirdChange got now t u → SaysMore t u
+pub change_says : {got : Heard} (now : Stamp) (t u : ThirdTurn) → ThirdChange got now t u → SaysMore (bounds got t) t u
 unfolding Rattle.st_third.specs.State.say Rattle.st_third.specs.State.plainly
 change_says {got} now t _ (Plainly _ u c p) =
     let w = spoken (bounds got t) now t.plain u c in
     record {
       more = map plain_output w.more;
       said = plain_said t u w.more w.out;
-      right = λ o h. let z = has_map plain_output w.more o h in subst (WordRight t.plain) (sym z.2) (w.right p z.0 z.1);
+      right = λ o h. let z = has_map plain_output w.more o h in
+          subst (WordRight t.plain) (sym z.2) (sends_right (bounds got t) t.plain z.0 (w.right p z.0 z.1));
       left = λ op h. let z = has_map plain_output w.more (says.Left op) h in absurd (no_left op z.0 z.2);
+      answers =
+          λ op a h. let z = has_map plain_output w.more (says.Plain (outputs.Answer op a)) h in
+          subst (SaysRight (bounds got t) t.plain) (sym (same_word (outputs.Answer op a) z.0 z.2)) (w.right p z.0 z.1);
     }
   where
+    same_word : (o y : Output) → says.Plain o ≡ plain_output y → o ≡ y
+    same_word o y e = cc
+
     no_left : (op : ℕ) (o : Output) → says.Left op ≡ plain_output o → ⊥
     no_left op o e = cc
 change_says {got} now t _ (Says _ o w) =
@@ -413,18 +429,23 @@ change_says {got} now t _ (Says _ o w) =
       said = sym (nothing_after (all_said t ++ o ∷ []));
       right = λ x h. one x h;
       left = λ op h. left op h;
+      answers = λ op a h. answered op a h;
     }
   where
     one : (x : ThirdOutput) → Has x (o ∷ []) → WordRight t.plain x
-    one x (inl e) = subst (WordRight t.plain) (sym e) (word_right t o w)
+    one x (inl e) = subst (WordRight t.plain) (sym e) (word_right got t o w)
     one x (inr i) = absurd i
 
     left : (op : ℕ) → Has (says.Left op) (o ∷ []) → HasLeave t op
-    left op (inl e) = subst (PlainWord t) (sym e) w
+    left op (inl e) = subst (PlainWord got t) (sym e) w
     left op (inr i) = absurd i
-change_says {got} now t _ (Leaves _ ls k) = says_none t _ refl
-change_says {got} now t _ (IsBeside _ b l) = says_none t _ refl
-change_says {got} now t _ (WaitsForRoom _ n) = says_none t _ refl
-change_says {got} now t _ (Begins _ epoch stamp e f w) = says_none t _ refl
-change_says {got} now t _ (GivesBack _ s l e h) = says_none t _ refl
-change_says {got} now t _ (Reduces _ s d ino e q i) = says_none t _ (reduced_says t s d ino)
+
+    answered : (op : ℕ) (a : AppAnswer) → Has (says.Plain (outputs.Answer op a)) (o ∷ []) → AnswersRight (bounds got t) t.plain a
+    answered op a (inl e) = subst (PlainWord got t) (sym e) w
+    answered op a (inr i) = absurd i
+change_says {got} now t _ (Leaves _ ls k) = says_none (bounds got t) t _ refl
+change_says {got} now t _ (IsBeside _ b l) = says_none (bounds got t) t _ refl
+change_says {got} now t _ (WaitsForRoom _ n) = says_none (bounds got t) t _ refl
+change_says {got} now t _ (Begins _ epoch stamp e f w) = says_none (bounds got t) t _ refl
+change_says {got} now t _ (GivesBack _ s l e h) = says_none (bounds got t) t _ refl
+change_says {got} now t _ (Reduces _ s d ino e q i) = says_none (bounds got t) t _ (reduced_says t s d ino)

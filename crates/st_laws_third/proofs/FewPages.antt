@@ -51,7 +51,7 @@ all_others p (x ∷ xs) e = go (p x) e (all_others p xs)
     go true q h = cc q
     go false q h = let l = h q in omega (arith, l)
 
-written_few : (n : ℕ) (ps : Pages) (ino : ℕ) (p : PageNo) (d : DirtyPage) → length ps.dirty ≤ n → is_dirty_full n ps ino p ≡ false →
+pub written_few : (n : ℕ) (ps : Pages) (ino : ℕ) (p : PageNo) (d : DirtyPage) → length ps.dirty ≤ n → is_dirty_full n ps ino p ≡ false →
     length (put (pages.is_dirty_of ino p) d ps.dirty) ≤ n
 written_few n ps ino p d l e = go (find (pages.is_dirty_of ino p) ps.dirty) refl
   where
@@ -75,7 +75,7 @@ fewer_clean : (m : Limits) (ps : Pages) (p : CleanPage → Bool) → FewAt m ps 
 fewer_clean m ps p f =
     let a = filtered_no_longer p ps.clean in let b = f.clean in record { dirty = f.dirty; most = f.most; clean = omega (arith, a, b) }
 
-plain_few : (m : Limits) (within : Bounds) → within.dirty ≡ m.dirty → (now : Stamp) (t u : Turn) (c : client.Change now t u) → Continues within now t u c →
+plain_few : (m : Limits) (within : Bounds) → within.limits.dirty ≡ m.dirty → (now : Stamp) (t u : Turn) (c : client.Change now t u) → Continues within now t u c →
     FewAt m t.here.store.pages → FewAt m u.here.store.pages
 unfolding passes.submit_read passes.submit_write passes.submit_command pages.written pages.forget_from pages.drop_from
 plain_few m within b now t _ (client.Says _ o p) k f = f

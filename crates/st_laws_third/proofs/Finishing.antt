@@ -14,9 +14,9 @@ use Rattle.st_laws_steps.specs.Client.Client as client
 use Rattle.st_laws_steps.specs.Client.Losses.{IsOutdated, Hardens, Passes, Unknown, without}
 use Rattle.st_laws_steps.proofs.Client.Losing.{failed_ends, is_done}
 use Rattle.st_third.specs.Client as third
-use Rattle.st_third.specs.State.{ThirdTurn, plainly}
-use Rattle.st_laws_third.specs.Changes.{ThirdChanges, ThirdFinishes, Still, with_plain}
-use Rattle.st_laws_third.proofs.Chains.{answered_with_leaves, as_plain, by_rule, newest_few, old_answers, old_one, old_takes}
+use Rattle.st_third.specs.State.{ThirdTurn, answer_with_leaves, plainly}
+use Rattle.st_laws_third.specs.Changes.{HeardFailure, ThirdChanges, ThirdFinishes, Still, heard_end, with_plain}
+use Rattle.st_laws_third.proofs.Chains.{as_plain, by_rule, fault_with_leaves, newest_few, old_answers, old_one, old_takes}
 
 pub takes : (now : Stamp) (op : ℕ) (ask : Ask) (t : ThirdTurn) → ThirdChanges None now t (third.take_plainly op ask t)
 takes now op ask t = by_rule t (cl.take_ask op ask) (old_takes op ask t.plain)
@@ -38,8 +38,12 @@ module _ (now : Stamp) (number : ℕ) (t : ThirdTurn) where
     u = without number t.plain
 
     -- the pages stay as they were
-    stay : (ok : Bool) (v : ThirdTurn) → IsOutdated t.plain c → ThirdChanges None now (with_plain u t) v → F ok v
+    stay : (ok : Bool) (v : ThirdTurn) → IsOutdated t.plain c → ThirdChanges (heard_end number ok) now (with_plain u t) v → F ok v
     stay ok v o cs = record { middle = u; ends = Passes c e o; rest = cs }
+
+    -- the command that ends is the one that was found
+    its_number : c.number ≡ number
+    its_number = command_number t.plain.here.store.commands number c e
 
     a_read : c.kind ≡ io.Read → IsOutdated t.plain c
     a_read k v d q = absurd (no (sym k ∙ q))
@@ -72,12 +76,16 @@ module _ (now : Stamp) (number : ℕ) (t : ThirdTurn) where
     unfolding third.failed_as plainly cl.failed_as
     fails io.Read k =
         stay false _ (a_read k)
-        (by_rule (with_plain u t) (third.read_failed c) (old_answers (cl.waits_for_read u c) (answers.DiskFault c.number) u))
+        (by_rule (with_plain u t) (third.read_failed c)
+        (old_answers (cl.waits_for_read u c) (answers.DiskFault c.number) u (ap (λ n. Some (HeardFailure n)) (sym its_number))))
     fails (io.Write v) k =
         record {
           middle = cl.mark_failed u c v;
           ends = failed_ends number t.plain c v e k;
-          rest = answered_with_leaves (cl.waits_for_write u c) (answers.DiskFault c.number) (with_plain (cl.mark_failed u c v) t);
+          rest =
+              subst (λ n. ThirdChanges (Some (HeardFailure n)) now (with_plain (cl.mark_failed u c v) t)
+              (answer_with_leaves (cl.waits_for_write u c) (answers.DiskFault c.number) (with_plain (cl.mark_failed u c v) t))) its_number
+              (fault_with_leaves (cl.waits_for_write u c) c.number (with_plain (cl.mark_failed u c v) t));
         }
 
     done : (k : IoKind) → c.kind ≡ k → F true (third.finish_as (with_plain u t) c block (pages.done_as k version))
@@ -91,16 +99,13 @@ module _ (now : Stamp) (number : ℕ) (t : ThirdTurn) where
     ends_as true = done c.kind refl
     ends_as false = fails c.kind refl
 
-    -- the command that ends is the one that was found
+    -- done or failed, as the command says
     command_ends : (ok : Bool) → F ok (third.finish_command t c ok block)
     unfolding third.finish_command pages.end_command pages.end_at plainly
     command_ends ok =
-        subst (λ m. F ok (third.ended_by t c block (pages.end_at t.plain.here.store.commands m ok version (pages.command_of t.plain.here.store.commands m)))) (sym n)
+        subst (λ m. F ok (third.ended_by t c block (pages.end_at t.plain.here.store.commands m ok version (pages.command_of t.plain.here.store.commands m)))) (sym its_number)
         (subst (λ o. F ok (third.ended_by t c block (pages.end_at t.plain.here.store.commands number ok version o))) (sym e)
         (ends_as ok))
-      where
-        n : c.number ≡ number
-        n = command_number t.plain.here.store.commands number c e
 
   pub finishes : (result : Option (Option (Tag × List ℕ))) → F (is_done result) (third.finish number result t)
   unfolding third.finish third.finish_at third.finish_by third.done_by

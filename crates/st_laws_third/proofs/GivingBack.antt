@@ -1,7 +1,8 @@
 -- Giving locks back is a list of changes.
 use Rattle.st_lemmas.proofs.Words
-use Words.{◌≡◌, ℕ, Bool, true, false, List, [], ◌∷◌, Option, Some, None, find, refl, ap, sym, subst, ◌∙◌, inl, inr, if◌then◌else◌, HeldLock, Operation, Stamp}
+use Words.{◌≡◌, ◌&&◌, ℕ, Bool, true, false, list_all, nat_le, List, [], ◌∷◌, Option, Some, None, find, refl, ap, sym, subst, ◌∙◌, inl, inr, if◌then◌else◌, HeldLock, Operation, Stamp}
 use Words.answers
+use Words.ClientLocks as locks
 use Words.ClientReplies as replies
 use Words.ClientState.{Association, ClientSession, Turn, file_of, is_serving}
 use Words.Lists.{Has}
@@ -9,6 +10,7 @@ use Words.Lookups.{some_is}
 use Words.Tables.{has_filter}
 use Rattle.std.specs.Option.{option_or}
 use Rattle.st_third.specs.GiveBack as giving
+use Rattle.st_third.specs.Promises.{cache_at, is_stuck_at}
 use Rattle.st_third.specs.State.{ThirdTurn, plainly, session}
 use Rattle.st_laws_third.specs.Changes.{ThirdChanges, Bounds, GivesBack, Heard, IsBeside, SameRun, Still}
 use Rattle.st_laws_third.proofs.Chains.{Old, both, by_rule, either, old_answers, old_still, one}
@@ -51,10 +53,17 @@ refusal_keeps s t o q =
     subst (λ b. session (if b then plainly (giving.too_many (file_of o.ask)) t else giving.give_unless t s o) ≡ session t) (sym q)
     (ap (λ (a : Association). a.session) (refused_here t.plain (file_of o.ask)))
 
-refuses : {within : Bounds} {now : Stamp} (u : Turn) (file : Option ℕ) → Old within now u (replies.refuse_file u answers.TooManyLocks file)
+-- the session's locks are as many as may be, and all are stuck
+stuck_here : (t : ThirdTurn) (s : ClientSession) → session t ≡ Some s → giving.is_all_stuck t s ≡ true → is_stuck_at t.limits t.plain.here ≡ true
+stuck_here t s e q =
+    subst
+    (λ o. (nat_le t.limits.locks (locks.count (cache_at o)) && list_all (giving.is_stuck_lock t.plain.here.store) (cache_at o).rows) ≡ true) (sym e) q
+
+refuses : {within : Bounds} {now : Stamp} (u : Turn) (file : Option ℕ) → is_stuck_at within.limits u.here ≡ true →
+    Old within now u (replies.refuse_file u answers.TooManyLocks file)
 unfolding replies.refuse_file
-refuses u None = old_still u
-refuses u (Some ino) = old_answers (replies.works_on u ino) answers.TooManyLocks u
+refuses u None q = old_still u
+refuses u (Some ino) q = old_answers (replies.works_on u ino) answers.TooManyLocks u (inl q)
 
 module _ {got : Heard} {now : Stamp} where
   module _ (s : ClientSession) where
@@ -67,7 +76,7 @@ module _ {got : Heard} {now : Stamp} where
     gives_back : (t : ThirdTurn) (o : Operation) → session t ≡ Some s → ThirdChanges got now t (giving.give_back t s o)
     unfolding giving.give_back giving.give_unless
     gives_back t o e =
-        either (giving.is_all_stuck t s) t _ _ (λ q. by_rule t (giving.too_many (file_of o.ask)) (refuses t.plain (file_of o.ask)))
+        either (giving.is_all_stuck t s) t _ _ (λ q. by_rule t (giving.too_many (file_of o.ask)) (refuses t.plain (file_of o.ask) (stuck_here t s e q)))
         (λ q. either (giving.is_on_its_way t s) t _ _ (λ w. Still t) (λ w. gives_lock t o e (giving.chosen t (giving.spare t s o)) refl))
 
     gives_each : (os : List Operation) (t : ThirdTurn) → session t ≡ Some s → ThirdChanges got now t (giving.give_each s os t)

@@ -1,7 +1,6 @@
 -- Asking to leave, leaving, greeting, losing and being answered `left` are lists of changes.
 use Rattle.st_lemmas.proofs.Words
 use Words.{◌≡◌, ◌⊎◌, ℕ, Bool, true, false, List, [], ◌∷◌, ◌++◌, Option, Some, None, find, refl, ap, sym, ◌∙◌, inl, inr, if◌then◌else◌, Operation, Stamp}
-use Words.answers
 use Words.Client as cl
 use Words.ClientPasses as passes
 use Words.ClientState.{ClientSession, send}
@@ -16,7 +15,7 @@ use Rattle.st_third.specs.Leave as leaving
 use Rattle.st_third.specs.State as third
 use Rattle.st_third.specs.State.{ThirdTurn, plainly, session}
 use Rattle.st_laws_third.specs.Changes.{ThirdChanges, ArePending, ThirdLeaves, ThirdLoses, Greets, HasLeft, Heard, HeardLeave, IsLost, Lasts, Leaves, Says, Stays, Still}
-use Rattle.st_laws_third.proofs.Chains.{both, by_rule, either, fewer_leaves, leave_answered, old_both, old_ends, old_one, one}
+use Rattle.st_laws_third.proofs.Chains.{both, by_rule, either, fewer_leaves, leave_quiesced, old_both, old_ends, old_one, one}
 use Rattle.st_laws_third.proofs.UsedOnce.{reduces_each}
 
 module _ {got : Heard} {now : Stamp} where
@@ -62,7 +61,7 @@ module _ {got : Heard} {now : Stamp} where
   ends_leave t (Some l) = go (leaving.least_lost t.plain.here.lost)
     where
       go : (o : Option ℕ) → ThirdChanges got now t (leaving.end_leave l t o)
-      go None = leave_answered answers.Quiesced l t
+      go None = leave_quiesced l t
       go (Some ino) = both (one (Leaves t _ (fewer_leaves t.leaves _))) (one (Says (third.without_leave l t) (says.Unsynced l.op ino) tt))
 
   ends_each : (s : ClientSession) (os : List Operation) (ls : List Leave) (ns : List ℕ) (t : ThirdTurn) →

@@ -25,6 +25,7 @@ pub mod Moves
 pub mod Told
 pub mod Sound
 mod HardEntries
+pub mod AllNumbered
 pub mod AllClients
 mod Welcomes
 mod Demands

@@ -40,7 +40,7 @@ use Rattle.st_third.specs.State.{Beside, ThirdClient, ThirdClientTurn, ThirdTurn
 use Rattle.st_third.specs.UsedOnce.{reduced}
 use Rattle.st_laws_third.specs.Changes.{Asks, Begins, Bounds, Continues, EpochFrom, GivesBack, GoesOnBy, Greets, HasLeft, Heard, HeardMessage, Hears, IsBeside, IsDemanded, IsGranted, IsLost, Lasts, Leaves}
 use Rattle.st_laws_third.specs.Changes.{LockFrom, NewerEpoch, Plainly, Reduces, SameEpoch, Says, Sees, Sends, Stays, Still, Then, ThirdChange, ThirdChanges, ThirdFinishes, ThirdLeaves}
-use Rattle.st_laws_third.specs.Changes.{ThirdLoses, ThirdPasses, WaitsForRoom, WasHeld, bounds, locks_in, with_plain}
+use Rattle.st_laws_third.specs.Changes.{ThirdLoses, ThirdPasses, WaitsForRoom, WasHeld, bounds, heard_end, locks_in, with_plain}
 use Rattle.st_laws_third.specs.Living.{ClientsLiveOn, EndIsTold, HasSession, IsOf, IsOfOne, LastsUnlessTold, LivesOn, heard_in}
 use Rattle.st_laws_third.specs.Pairs.{IsPaired}
 use Rattle.st_laws_third.proofs.Chains.{same_locks}
@@ -120,26 +120,31 @@ lives_then got a b c p q =
       heard = λ e u f. goes_then got a b p (omega (arith, e, x, y)) u (q.heard (omega (arith, e, x, y)) u f);
     }
 
--- where nothing is heard, anything may be
-hears_none : {A : Type 0} (a : Association) (epoch : ℕ) (body : Body) → Hears None a epoch body → A
-hears_none {A} a epoch body h = absurd (no h.is)
-  where
-    no : ◌≡◌ {A = Heard} None (Some (HeardMessage h.message)) → ⊥
-    no e = cc
+-- no message is heard
+abbrev pub IsUnspoken : Heard → Type 0
+IsUnspoken got = (m : Message) → got ≡ Some (HeardMessage m) → ⊥
 
-lives_wider : (got : Heard) (a b : Association) → LivesOn None a b → LivesOn got a b
-lives_wider got a b p = record { server = p.server; life = p.life; stays = p.stays; heard = λ e u f. wider u (p.heard e u f) }
+pub nothing_heard : IsUnspoken None
+nothing_heard m e = cc
+
+pub end_heard : (number : ℕ) (ok : Bool) → IsUnspoken (heard_end number ok)
+end_heard number true m e = cc
+end_heard number false m e = cc
+
+-- where no message is heard, anything may be
+lives_wider : (less got : Heard) → IsUnspoken less → (a b : Association) → LivesOn less a b → LivesOn got a b
+lives_wider less got none a b p = record { server = p.server; life = p.life; stays = p.stays; heard = λ e u f. wider u (p.heard e u f) }
   where
-    lock : (l : HeldLock) → LockFrom None a (locks_in a.session) l → LockFrom got a (locks_in a.session) l
+    lock : (l : HeldLock) → LockFrom less a (locks_in a.session) l → LockFrom got a (locks_in a.session) l
     lock l (WasHeld k h i g) = WasHeld k h i g
-    lock l (IsGranted epoch mode x) = hears_none a epoch _ x
-    lock l (IsDemanded epoch to x) = hears_none a epoch _ x
+    lock l (IsGranted epoch mode x) = absurd (none x.message x.is)
+    lock l (IsDemanded epoch to x) = absurd (none x.message x.is)
 
-    epoch : (u : ClientSession) → EpochFrom None a a.session u → EpochFrom got a a.session u
+    epoch : (u : ClientSession) → EpochFrom less a a.session u → EpochFrom got a a.session u
     epoch u (SameEpoch s e q) = SameEpoch s e q
-    epoch u (NewerEpoch body x) = hears_none a u.epoch.0 body x
+    epoch u (NewerEpoch body x) = absurd (none x.message x.is)
 
-    wider : (u : ClientSession) → GoesOnBy None a a.session u → GoesOnBy got a a.session u
+    wider : (u : ClientSession) → GoesOnBy less a a.session u → GoesOnBy got a a.session u
     wider u g = record { locks = λ l h. lock l (g.locks l h); epoch = epoch u g.epoch }
 
 -- a message of a client stays one
@@ -211,8 +216,8 @@ sent_of t _ (Greets stamp) = record { from = refl; to = refl; since = omega arit
 sent_of t _ (Sees s ino g e) = record { from = refl; to = refl; since = omega arith; life = omega arith; asks = λ q. inr (s, e) }
 sent_of t _ (Asks s q stamp e f) = record { from = refl; to = refl; since = omega arith; life = omega arith; asks = λ r. inr (s, e) }
 
-goes_by : (got : Heard) (t u : ThirdTurn) → u.plain.id ≡ t.plain.id → u.plain.config ≡ t.plain.config → LivesOn got t.plain.here u.plain.here → SaysMore t u →
-    Goes got t u
+goes_by : (got : Heard) (t u : ThirdTurn) → u.plain.id ≡ t.plain.id → u.plain.config ≡ t.plain.config → LivesOn got t.plain.here u.plain.here →
+    SaysMore (bounds got t) t u → Goes got t u
 goes_by got t u i k l w =
     record {
       id = i;
@@ -374,10 +379,10 @@ leads_both got t u v a b =
 changes_lead : (got : Heard) (now : Stamp) (t u : ThirdTurn) → ThirdChanges got now t u → Leads got t u
 changes_lead got now t u cs = record { goes = changes_go got now t u cs; lasts = inl (changes_last got now t u cs) }
 
--- where nothing is heard
-goes_wider : (got : Heard) (t u : ThirdTurn) → Goes None t u → Goes got t u
-goes_wider got t u g =
-    record { id = g.id; config = g.config; lives = lives_wider got t.plain.here u.plain.here g.lives; more = g.more; said = g.said; sent = g.sent }
+-- where no message is heard
+goes_wider : (less got : Heard) → IsUnspoken less → (t u : ThirdTurn) → Goes less t u → Goes got t u
+goes_wider less got none t u g =
+    record { id = g.id; config = g.config; lives = lives_wider less got none t.plain.here u.plain.here g.lives; more = g.more; said = g.said; sent = g.sent }
 
 -- One rule at one server.
 module _ (got : Heard) (now : Stamp) where
@@ -429,7 +434,7 @@ module _ (got : Heard) (now : Stamp) where
         said = noted_said t;
         sent = λ m h. absurd (no m h);
       } in
-      let rest : Goes got x (leaving.emptied v) = goes_both got x v _ (goes_wider got x v (changes_go None now x v cs)) (emptied_goes v) in
+      let rest : Goes got x (leaving.emptied v) = goes_both got x v _ (goes_wider None got nothing_heard x v (changes_go None now x v cs)) (emptied_goes v) in
       record { goes = goes_both got t x _ noted rest; lasts = inr (inl (has_left noted.more rest.more _ (inl refl))) }
     where
       no : (m : Message) → Has (says.Plain (outputs.Send m)) (says.Plain (outputs.Note (notes.Lost t.plain.here.server t.plain.here.life)) ∷ []) → ⊥
@@ -450,8 +455,8 @@ module _ (got : Heard) (now : Stamp) where
   finishes_go number ok t u f =
       let v : ThirdTurn = with_plain f.middle t in
       record {
-        goes = goes_both got t v u (ends_go f.middle f.ends) (goes_wider got v u (changes_go None now v u f.rest));
-        lasts = inl (changes_last None now v u f.rest ∙ sym (ends_fit now number ok t.plain f.middle f.ends).life);
+        goes = goes_both got t v u (ends_go f.middle f.ends) (goes_wider (heard_end number ok) got (end_heard number ok) v u (changes_go _ now v u f.rest));
+        lasts = inl (changes_last _ now v u f.rest ∙ sym (ends_fit now number ok t.plain f.middle f.ends).life);
       }
     where
       ends_go : (m : Turn) → Ends number ok t.plain m → Goes got t (with_plain m t)
@@ -480,7 +485,7 @@ module _ (got : Heard) (now : Stamp) where
 
   -- where nothing is heard
   deaf : (u v : ThirdTurn) → ThirdChanges None now u v → Leads got u v
-  deaf u v cs = record { goes = goes_wider got u v (changes_go None now u v cs); lasts = inl (changes_last None now u v cs) }
+  deaf u v cs = record { goes = goes_wider None got nothing_heard u v (changes_go None now u v cs); lasts = inl (changes_last None now u v cs) }
 
   passes_go : (t u : ThirdTurn) → ThirdPasses now t u → Leads got t u
   passes_go t u p =

@@ -1,6 +1,6 @@
 -- What a reply does at a client, as in the first two forms, is a list of changes that ask nothing and send nothing.
 use Rattle.st_lemmas.proofs.Words
-use Words.{◌≡◌, ◌≤◌, ℕ, Bool, true, false, not, List, [], ◌∷◌, Option, Some, None, refl, sym, ap, ◌∙◌, subst, inl, arith, if◌then◌else◌, eqb-true, ltb-true}
+use Words.{◌≡◌, ◌≤◌, ℕ, Bool, true, false, not, List, [], ◌∷◌, Option, Some, None, refl, sym, ap, ◌∙◌, subst, inl, inr, arith, if◌then◌else◌, eqb-true, ltb-true}
 use Words.{nat_lt, Body, Epoch, ExtentRow, HeldLock, Life, NameReply, PageNo, Request, ServerId, Stamp, Why}
 use Words.answers
 use Words.bodies
@@ -15,13 +15,14 @@ use Words.ClientState as cs
 use Words.ClientState.{Association, ClientSession, Turn, answer_each, fits, is_asked, with_session, with_store}
 use Words.Keys.{server_node}
 use Words.Tables.{and_true, has_filter}
+use Rattle.st_promises.specs.Faults as faults
 use Rattle.st_laws_steps.specs.Client.Client as client
 use Rattle.st_laws_steps.specs.Client.Client.{Unasked}
 use Rattle.st_laws_steps.specs.Client.Session.{AsksNothing, DropsLock, EndsRequest, IsReasserted, NewEpoch}
 use Rattle.st_laws_steps.proofs.Client.Changes.{goes_keeps}
 use Rattle.st_laws_steps.proofs.Client.Replying.{Fresh, alike_condemned, alike_wait, granted_alike, same_store, session_ended}
 use Rattle.st_base.specs.Mode.{covers}
-use Rattle.st_laws_third.specs.Changes.{Bounds, GoesOnBy, Hears, NewerEpoch, WasHeld}
+use Rattle.st_laws_third.specs.Changes.{AnswersRight, Bounds, GoesOnBy, Hears, NewerEpoch, WasHeld}
 use Rattle.st_laws_third.proofs.Chains.{Old, fewer_locks, old_answers, old_both, old_either, old_one, old_still, same_locks}
 use Rattle.st_laws_third.proofs.UsedOnce.{has_granted}
 
@@ -57,7 +58,7 @@ module _ (within : Bounds) (now : Stamp) where
         date = omega arith;
         asks = λ x q. absurd (no_page x q);
       })) (tt, record { locks = λ l i. WasHeld l i refl refl; epoch = NewerEpoch body h }))
-      (old_answers (is_asked t.here.server) (answers.Uncertain s.epoch.0 epoch.0) (with_session (replies.in_epoch epoch s) t)))
+      (old_answers (is_asked t.here.server) (answers.Uncertain s.epoch.0 epoch.0) (with_session (replies.in_epoch epoch s) t) tt))
       (λ b. old_still t)
 
   pub of_other_epoch : (t : Turn) (s : ClientSession) (epoch : Epoch) (body : Body) → t.here.session ≡ Some s → Hears within.heard t.here epoch.0 body →
@@ -108,10 +109,17 @@ module _ (within : Bounds) (now : Stamp) where
           old_one (client.Follows t s _ e (record { how = DropsLock s ino l; date = omega arith; asks = λ x q. inl q }))
           (tt, fewer_locks t.here s _ (λ k h. (has_filter (λ r. not (locks.is_lock_on ino r)) s.locks.rows k h).0) refl)
 
-  is_named : (t : Turn) (s : ClientSession) (file : Option ℕ) (reply : NameReply) → t.here.session ≡ Some s → C t (replies.named t s file reply)
+  is_named : (t : Turn) (s : ClientSession) (epoch : ℕ) (file : Option ℕ) (reply : NameReply) → t.here.session ≡ Some s →
+      Hears within.heard t.here epoch (bodies.Named reply) → C t (replies.named t s file reply)
   unfolding replies.named replies.named_as answer_each
-  is_named t s file reply e = old_both (old_answers (is_asked t.here.server) (replies.name_answer reply) t) (go reply)
+  is_named t s epoch file reply e h =
+      old_both (old_answers (is_asked t.here.server) (replies.name_answer reply) t (caused reply h)) (go reply)
     where
+      caused : (r : NameReply) → Hears within.heard t.here epoch (bodies.Named r) → AnswersRight within t (replies.name_answer r)
+      caused (Ino ino) h = tt
+      caused (Listed rows) h = tt
+      caused (Refused code) h = record { message = h.message; is = h.is; refuses = ap faults.refuses h.body }
+
       u : Turn
       u = answer_each (is_asked t.here.server) (replies.name_answer reply) t
 
@@ -121,25 +129,31 @@ module _ (within : Bounds) (now : Stamp) where
       go (Refused code) = old_still u
 
   -- Refusals
-  refuses_as : (t : Turn) (w : Why) (a b : ℕ) (file : Option ℕ) (asked : Body) → C t (replies.refuse_as t w a b file asked)
+  refuses_as : (t : Turn) (epoch : ℕ) (w : Why) (a b : ℕ) (file : Option ℕ) (asked : Body) → Hears within.heard t.here epoch (bodies.Nack w a b) →
+      C t (replies.refuse_as t w a b file asked)
   unfolding replies.refuse_as replies.refuse_file replies.refuse_page replies.refuse_holder
-  refuses_as t why.NoFile a b None asked = old_still t
-  refuses_as t why.NoFile a b (Some ino) asked = old_answers (replies.works_on t ino) answers.NoFile t
-  refuses_as t why.TooManyLocks a b None asked = old_still t
-  refuses_as t why.TooManyLocks a b (Some ino) asked = old_answers (replies.works_on t ino) answers.TooManyLocks t
-  refuses_as t why.NoSpace a b file asked = at file (cs.page_asked asked)
+  refuses_as t epoch why.NoFile a b None asked h = old_still t
+  refuses_as t epoch why.NoFile a b (Some ino) asked h = old_answers (replies.works_on t ino) answers.NoFile t tt
+  refuses_as t epoch why.TooManyLocks a b None asked h = old_still t
+  refuses_as t epoch why.TooManyLocks a b (Some ino) asked h =
+      old_answers (replies.works_on t ino) answers.TooManyLocks t (inr (record { message = h.message; is = h.is; limit = a; more = b; body = h.body }))
+  refuses_as t epoch why.NoSpace a b file asked h = at file (cs.page_asked asked)
     where
       at : (f : Option ℕ) (p : Option PageNo) → C t (replies.refuse_page t (answers.NoSpace a b) f p)
       at None p = old_still t
       at (Some ino) None = old_still t
-      at (Some ino) (Some p) = old_answers (replies.writes_on t ino p) (answers.NoSpace a b) t
-  refuses_as t why.NotHolder a b file asked =
-      old_either (cs.asks_cut_or_remove asked) t _ _ (λ e. old_answers (is_asked t.here.server) answers.NotHolder t) (λ e. old_still t)
-  refuses_as t w a b file asked = old_still t
+      at (Some ino) (Some p) =
+          old_answers (replies.writes_on t ino p) (answers.NoSpace a b) t (record { message = h.message; is = h.is; refuses = ap faults.refuses h.body })
+  refuses_as t epoch why.NotHolder a b file asked h =
+      old_either (cs.asks_cut_or_remove asked) t _ _
+      (λ e. old_answers (is_asked t.here.server) answers.NotHolder t (record { message = h.message; is = h.is; refuses = ap faults.refuses h.body }))
+      (λ e. old_still t)
+  refuses_as t epoch w a b file asked h = old_still t
 
-  refuses : (t : Turn) (w : Why) (a b : ℕ) (file : Option ℕ) (asked : Body) → C t (replies.refused t w a b file asked)
+  refuses : (t : Turn) (epoch : ℕ) (w : Why) (a b : ℕ) (file : Option ℕ) (asked : Body) → Hears within.heard t.here epoch (bodies.Nack w a b) →
+      C t (replies.refused t w a b file asked)
   unfolding replies.refused replies.leave_stuck
-  refuses t w a b file asked = old_both (refuses_as t w a b file asked) (old_one (client.Operates _ _) tt)
+  refuses t epoch w a b file asked h = old_both (refuses_as t epoch w a b file asked h) (old_one (client.Operates _ _) tt)
 
   -- what a reply other than an accepted reassertion does when it ends a request
   abbrev IsOther : Body → Type 0
@@ -160,10 +174,10 @@ module _ (within : Bounds) (now : Stamp) where
       waits false = same_locks t.here s _ refl refl
   has_effect t s epoch (bodies.Extents ino rows) file asked o e n f fr h =
       old_either (replies.is_current s.locks asked) t _ _ (λ c. learns t ino rows asked (subst Unasked (sym e) n) f fr) (λ c. old_still t)
-  has_effect t s epoch bodies.Ack file asked o e n f fr h = old_answers (is_asked t.here.server) answers.Cut t
-  has_effect t s epoch (bodies.Named reply) file asked o e n f fr h = is_named t s file reply e
+  has_effect t s epoch bodies.Ack file asked o e n f fr h = old_answers (is_asked t.here.server) answers.Cut t tt
+  has_effect t s epoch (bodies.Named reply) file asked o e n f fr h = is_named t s epoch file reply e h
   has_effect t s epoch bodies.Reasserted file asked o e n f fr h = absurd o
-  has_effect t s epoch (bodies.Nack w a b) file asked o e n f fr h = refuses t w a b file asked
+  has_effect t s epoch (bodies.Nack w a b) file asked o e n f fr h = refuses t epoch w a b file asked h
   has_effect t s epoch reply file asked o e n f fr h = old_still t
 
   -- the request ends

@@ -1,6 +1,7 @@
 -- Changes of pages, reads and writes of a client of the third form are lists of changes.
 use Rattle.st_lemmas.proofs.Words
-use Words.{◌≡◌, ℕ, Bool, true, false, List, [], ◌∷◌, Option, Some, None, not, refl, ◌∙◌, if◌then◌else◌, FileId, PageNo, Ask, CleanPage, DirtyPage}
+use Words.{◌≡◌, ◌≤◌, ◌&&◌, ℕ, Bool, true, false, List, [], ◌∷◌, Option, Some, None, not, refl, ap, ◌∙◌, arith, if◌then◌else◌, FileId, PageNo, Ask, CleanPage, DirtyPage}
+use Words.{filter, le-leb, leb-true, length, lt-ltb, list_any, map, nat_le, nat_lt}
 use Words.{KnownExtent, MappedBlock, Note, Operation, Stamp}
 use Words.asks
 use Words.answers
@@ -10,9 +11,15 @@ use Words.outputs
 use Words.FlatLog.{overlay}
 use Rattle.st_base.specs.Page.{filled}
 use Words.ClientPages as pages
+use Words.ClientPages.{Pages, Store}
 use Words.ClientPasses as passes
-use Words.ClientState.{ClientSession, Turn, is_serving, keep, server_of, with_store}
-use Words.Tables.{and_true, not_true}
+use Words.ClientState.{Association, ClientSession, Turn, is_serving, keep, server_of, with_store}
+use Words.Lists.{Has}
+use Words.Members.{some_member_passes}
+use Words.Tables.{and_both, and_true, has_filter_in, has_map_in, not_true}
+use Words.Truth.{not_both}
+use Rattle.st_lemmas.proofs.Keys.{rising_has_in}
+use Rattle.st_lemmas.proofs.Tests.{filtered_no_longer}
 use Rattle.st_laws_steps.specs.Client.Client as client
 use Rattle.st_laws_steps.specs.Client.Client.{ChangesPage}
 use Rattle.st_laws_steps.proofs.Client.Working.{not_dirty}
@@ -36,6 +43,33 @@ same_session now at s tick t (Some d) = go (room.is_writable at t s now tick d)
     go : (b : Bool) → session (if b then plainly (room.written_out d) t else t) ≡ session t
     go true = out (pages.mapping_of t.plain.here.store.extents d.ino d.page)
     go false = refl
+
+-- Without room: as many pages are dirty as may be, and none of them makes room.
+
+full_of : (n : ℕ) (ps : Pages) (ino : ℕ) (p : PageNo) → is_dirty_full n ps ino p ≡ true → n ≤ length ps.dirty
+full_of n ps ino p e =
+    let x = leb-true n (length (pages.without_dirty ino p ps.dirty)) e in
+    let y = filtered_no_longer (λ d. not (pages.is_dirty_of ino p d)) ps.dirty in omega (arith, x, y)
+
+none_hopeful : (st : Store) → room.is_hopeless st ≡ true → list_any (room.is_hopeful st.commands) st.pages.dirty ≡ false
+none_hopeful st e = go (list_any (room.is_hopeful st.commands) st.pages.dirty) refl
+  where
+    some : (xs : List ℕ) (n : ℕ) → Has n xs → not (nat_lt 0 (length xs)) ≡ true → ⊥
+    some [] n h q = h
+    some (x ∷ xs) n h q = not_both (nat_lt 0 (length (x ∷ xs))) (lt-ltb 0 (length (x ∷ xs)) (omega arith)) (not_true (nat_lt 0 (length (x ∷ xs))) q)
+
+    go : (b : Bool) → list_any (room.is_hopeful st.commands) st.pages.dirty ≡ b → b ≡ false
+    go false q = refl
+    go true q =
+        let d = some_member_passes (room.is_hopeful st.commands) st.pages.dirty q in
+        let v : Has (pages.version_of_dirty d.0) (map pages.version_of_dirty (filter (room.is_hopeful st.commands) st.pages.dirty)) =
+        has_map_in pages.version_of_dirty (filter (room.is_hopeful st.commands) st.pages.dirty) d.0
+        (has_filter_in (room.is_hopeful st.commands) st.pages.dirty d.0 d.1 d.2) in
+        absurd (some (room.hopeful st) _ (rising_has_in _ (pages.version_of_dirty d.0) v) e)
+
+hopeless_is : (a : Association) (n : ℕ) → n ≤ length a.store.pages.dirty → room.is_hopeless a.store ≡ true → (nat_le n (length a.store.pages.dirty) && not (list_any (room.is_hopeful a.store.commands) a.store.pages.dirty)) ≡ true
+hopeless_is a n l e =
+    and_both (nat_le n (length a.store.pages.dirty)) _ (le-leb n (length a.store.pages.dirty) l) (ap not (none_hopeful a.store e))
 
 -- Fetching and reading a page: neither changes one.
 module _ {within : Bounds} {now : Stamp} where
@@ -68,7 +102,7 @@ module _ {within : Bounds} {now : Stamp} where
   reads t s o f p = old_either (passes.holds s modes.S f) t _ _ (λ e. go (pages.cached t.here.store.pages f.ino p) refl) (λ e. old_keeps t o)
     where
       known : pages.cached t.here.store.pages f.ino p ≡ None → (e : KnownExtent) (m : Option MappedBlock) → Old within now t (passes.read_known t o f p e m)
-      known q e None = old_answer t o.op (answers.Read (filled 0))
+      known q e None = old_answer t o.op (answers.Read (filled 0)) tt
       known q e (Some m) = fetches t o f p q
 
       uncached : pages.cached t.here.store.pages f.ino p ≡ None → (e : Option KnownExtent) → Old within now t (passes.read_uncached t o f p e)
@@ -77,7 +111,7 @@ module _ {within : Bounds} {now : Stamp} where
 
       go : (b : Option (List ℕ)) → pages.cached t.here.store.pages f.ino p ≡ b → Old within now t (passes.read_at t o f p b)
       go None q = uncached q (pages.known_of t.here.store.extents f.ino p)
-      go (Some bytes) q = old_both (uses t f.ino p) (old_answer _ o.op (answers.Read bytes))
+      go (Some bytes) q = old_both (uses t f.ino p) (old_answer _ o.op (answers.Read bytes) tt)
 
 module _ {got : Heard} {now : Stamp} where
   pub keeps : (t : ThirdTurn) (o : Operation) → ThirdChanges got now t (plainly (keep o) t)
@@ -88,18 +122,19 @@ module _ {got : Heard} {now : Stamp} where
     waits : ThirdChanges got now t (room.waiting_for_room o t)
     waits = both (keeps t o) (one (WaitsForRoom (plainly (keep o) t) _))
 
-    finds_none : ThirdChanges got now t (room.without_room t o)
+    finds_none : t.limits.dirty ≤ length t.plain.here.store.pages.dirty → ThirdChanges got now t (room.without_room t o)
     unfolding room.without_room
-    finds_none =
+    finds_none full =
         either (room.is_hopeless t.plain.here.store) t _ _
-        (λ e. by_rule t (passes.answer o answers.DirtyFull) (old_one (client.Says t.plain (outputs.Answer o.op answers.DirtyFull) tt) tt)) (λ e. waits)
+        (λ e. by_rule t (passes.answer o answers.DirtyFull) (old_one (client.Says t.plain (outputs.Answer o.op answers.DirtyFull) tt) (hopeless_is t.plain.here t.limits.dirty full e)))
+        (λ e. waits)
 
     module _ (s : ClientSession) (se : session t ≡ Some s) (sv : is_serving t.plain.config s now ≡ true) where
       changes_page : (f : FileId) (p : PageNo) (bytes : List ℕ) (n : Note) → f.server ≡ t.plain.here.server →
           pages.is_mapped t.plain.here.store.extents f.ino p ≡ true → ChangesPage f p n → ThirdChanges got now t (room.change_page t o f p bytes n)
       unfolding room.change_page passes.change
       changes_page f p bytes n own m h =
-          either (is_dirty_full t.limits.dirty t.plain.here.store.pages f.ino p) t _ _ (λ e. finds_none)
+          either (is_dirty_full t.limits.dirty t.plain.here.store.pages f.ino p) t _ _ (λ e. finds_none (full_of t.limits.dirty t.plain.here.store.pages f.ino p e))
           (λ e. by_rule t (room.changed o f p bytes n)
           (old_both (old_one (client.Writes t.plain s f p bytes n se sv own m h) e) (old_one (client.Says _ (outputs.Answer o.op answers.Written) tt) tt)))
 

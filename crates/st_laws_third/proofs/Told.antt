@@ -147,7 +147,7 @@ word_seen sc c before o y h = at o h
     at (says.Ended s life end) h = one (says.Ended s life end) _ (Ends s life end) (has_append sc.seen _ y h)
 
 -- one of these words is observed so
-abbrev SeenAmong : ClientId → List ThirdOutput → ThirdObservation → Type 0
+abbrev pub SeenAmong : ClientId → List ThirdOutput → ThirdObservation → Type 0
 SeenAmong c os y = (x : ThirdOutput) × (Has x os) × (SeenOf c x y)
 
 words_seen : (c : ClientId) (before : ClientState) (os : List ThirdOutput) (sc : ThirdWorldTurn) (y : ThirdObservation) →
@@ -164,7 +164,7 @@ words_seen c before (o ∷ os) sc y h = go (words_seen c before os (every.client
     go (inl i) = at (word_seen sc c before o y i)
     go (inr z) = inr (z.0, inr z.1, z.2)
 
-took_told : (w : ThirdWorld) (c : ClientId) (site : WorldClient) (t : ThirdClientTurn) (y : ThirdObservation) → Has y (every.client_took w c site t).seen →
+pub took_told : (w : ThirdWorld) (c : ClientId) (site : WorldClient) (t : ThirdClientTurn) (y : ThirdObservation) → Has y (every.client_took w c site t).seen →
     SeenAmong c t.out y
 unfolding every.client_took
 took_told w c site t y h = go (words_seen c site.node.state t.out (unseen (every.with_client c site t.client w)) y h)
@@ -196,10 +196,10 @@ server_word sc s o y h = go o h
     go (outputs.Submit number b what) h = inl h
     go (outputs.Answer op answer) h = inl h
 
-abbrev ServerAmong : ServerId → List Output → Observation → Type 0
+abbrev pub ServerAmong : ServerId → List Output → Observation → Type 0
 ServerAmong s os y = (x : Output) × (Has x os) × (ServerSeen s x y)
 
-server_words : (s : ServerId) (os : List Output) (sc : WorldTurn) (y : Observation) → Has y (ev.server_says_all s os sc).seen →
+pub server_words : (s : ServerId) (os : List Output) (sc : WorldTurn) (y : Observation) → Has y (ev.server_says_all s os sc).seen →
     (Has y sc.seen) ⊎ (ServerAmong s os y)
 unfolding ev.server_says_all
 server_words s [] sc y h = inl h
@@ -224,7 +224,7 @@ fate_one k fates.Pending fates.Pending y h = absurd h
 fate_one k fates.Hard new y h = absurd h
 fate_one k (fates.Gone cause) new y h = absurd h
 
-fates_all : (k : ℕ) (es fs : List LogEntry) (y : Observation) → Has y (ev.fates_from k es fs) → IsFate y
+pub fates_all : (k : ℕ) (es fs : List LogEntry) (y : Observation) → Has y (ev.fates_from k es fs) → IsFate y
 unfolding ev.fates_from
 fates_all k [] fs y h = absurd h
 fates_all k (e ∷ es) [] y h = absurd h

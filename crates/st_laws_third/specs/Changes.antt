@@ -6,9 +6,12 @@ use Rattle.st_base.specs.declared.ids.Stamp.{Stamp}
 use Rattle.st_base.specs.declared.ids.GrantNo.{GrantNo}
 use Rattle.st_base.specs.declared.ids.PageNo.{PageNo}
 use Rattle.st_base.specs.declared.mode.Mode.{Mode}
+use Rattle.st_messages.specs.declared.answer.AppAnswer.{AppAnswer}
+use Rattle.st_messages.specs.declared.answer.AppAnswer.TheVariants as answers
 use Rattle.st_messages.specs.declared.message.Body.{Body}
 use Rattle.st_messages.specs.declared.message.Body.TheVariants as bodies
 use Rattle.st_messages.specs.declared.message.Message.{Message}
+use Rattle.st_messages.specs.declared.message.Why.TheVariants as why
 use Rattle.st_messages.specs.declared.output.Output.{Output}
 use Rattle.st_messages.specs.declared.output.Output.TheVariants as outputs
 use Rattle.st_rules.specs.declared.client.DemandedFile.{DemandedFile}
@@ -22,17 +25,20 @@ use Rattle.st_rules.specs.ClientPages.{Store}
 use Rattle.st_rules.specs.ClientReplies as replies
 use Rattle.st_rules.specs.ClientState.{Association, ClientSession, Turn, header_of}
 use Rattle.st_rules.specs.Keys.{server_node}
+use Rattle.st_promises.specs.Faults as faults
 use Rattle.st_laws_steps.specs.Client.Client as client
 use Rattle.st_laws_steps.specs.Client.Client.{Change}
 use Rattle.st_laws_steps.specs.Client.Losses.{Ends, is_ended}
 use Rattle.st_laws_steps.specs.Client.Session.{SessionChange, AsksNew, IsReasserted}
 use Rattle.st_lemmas.specs.Lists.{Has}
 use Rattle.st_third.specs.declared.beside.Leave.{Leave}
+use Rattle.st_third.specs.declared.limits.Limits.{Limits}
 use Rattle.st_third.specs.declared.output.ThirdOutput.{ThirdOutput}
 use Rattle.st_third.specs.declared.output.ThirdOutput.TheVariants as says
 use Rattle.st_third.specs.GiveBack.{demanded}
 use Rattle.st_third.specs.Leave.{emptied, is_unasked, noted_lost}
 use Rattle.st_third.specs.Limits.{is_dirty_full, limited_session}
+use Rattle.st_third.specs.Promises.{is_dirty_full_at, is_stuck_at}
 use Rattle.st_third.specs.State.{Beside, RUN, ThirdTurn, here, is_leave_of, say, session, with_beside, with_its_session}
 use Rattle.st_third.specs.UsedOnce.{reduced}
 
@@ -48,11 +54,6 @@ with_leaves ls t = record t { leaves = ls }
 abbrev pub with_room : ℕ → ThirdTurn → ThirdTurn
 with_room n t = record t { room = n }
 
--- an answer to an application
-abbrev pub IsAnswer : Output → Type 0
-IsAnswer (outputs.Answer op a) = Unit {0}
-IsAnswer o = ⊥
-
 -- The ask of this number has left: it is a pending leave of the server, and nothing was asked in the session yet.
 pub record HasLeave (t : ThirdTurn) (op : ℕ) : Type 0 where
   pub leave : Leave
@@ -60,13 +61,6 @@ pub record HasLeave (t : ThirdTurn) (op : ℕ) : Type 0 where
   pub number : leave.op ≡ op
   pub of_server : is_leave_of (here t) leave ≡ true
   pub unasked : is_unasked (session t) ≡ true
-
--- an answer, or a word of the third form; but not the end of a life
-abbrev pub PlainWord : ThirdTurn → ThirdOutput → Type 0
-PlainWord t (says.Plain o) = IsAnswer o
-PlainWord t (says.Left op) = HasLeave t op
-PlainWord t (says.Ended s life end) = ⊥
-PlainWord t o = Unit {0}
 
 -- What a client sends: a greeting, that a demand was seen in a session, or what a session asks. Its header has the session's epoch.
 pub data Sends (t : Turn) : Message → Type 0 where
@@ -81,14 +75,34 @@ abbrev pub SendsRight : Turn → Output → Type 0
 SendsRight t (outputs.Send m) = Sends t m
 SendsRight t o = Unit {0}
 
--- What a client may hear: a message, or an ask to leave.
+-- What a client may hear: a message, an ask to leave, or that the command of this number failed.
 pub data HeardWord : Type 0 where
   HeardMessage : Message → HeardWord
   HeardLeave : Leave → HeardWord
+  HeardFailure : ℕ → HeardWord
 
 -- What is heard: the one that the client takes, if it takes one.
 abbrev pub Heard : Type 0
 Heard = Option HeardWord
+
+-- what is heard at the end of a command, done or failed
+abbrev pub heard_end : ℕ → Bool → Heard
+heard_end number true = None
+heard_end number false = Some (HeardFailure number)
+
+-- a message that refuses what was asked
+pub record HearsRefusal (got : Heard) : Type 0 where
+  pub message : Message
+  pub is : got ≡ Some (HeardMessage message)
+  pub refuses : faults.refuses message.body ≡ true
+
+-- one that refuses a lock, or another request, as too many
+pub record HearsTooMany (got : Heard) : Type 0 where
+  pub message : Message
+  pub is : got ≡ Some (HeardMessage message)
+  pub limit : ℕ
+  pub more : ℕ
+  pub body : message.body ≡ bodies.Nack why.TooManyLocks limit more
 
 -- the association's server says this in its life there, and in this epoch
 pub record Hears (got : Heard) (a : Association) (epoch : ℕ) (b : Body) : Type 0 where
@@ -136,25 +150,57 @@ AsksRight run st s _ (AsksNew _ r now body cutting a c i) = (IsRun run body) × 
 AsksRight run st s _ (IsReasserted _) = (q : Request) × (s.requests.asked ≡ Some q)
 AsksRight run st s u c = Unit {0}
 
--- What bounds a change: what is heard, how many pages a run may have, and how many pages may be dirty.
+-- What bounds a change: what is heard, how many pages a run may have, and how much there may be of what.
 pub record Bounds : Type 0 where
   pub heard : Heard
   pub run : ℕ
-  pub dirty : ℕ
+  pub limits : Limits
 
 -- those of a turn
 abbrev pub bounds : Heard → ThirdTurn → Bounds
-bounds got t = record { heard = got; run = t.beside.run; dirty = t.limits.dirty }
+bounds got t = record { heard = got; run = t.beside.run; limits = t.limits }
 
--- A change of the first two forms, within bounds. It begins no session, sends nothing else, asks for no
--- longer run, changes a page only if there is room for it, and leaves no more clean pages than may be.
--- A lock and an epoch that are new were heard.
+-- Why an application may be answered so. A fault of a disk is that of the command that failed. A
+-- refusal was heard. All locks are stuck, or too many were heard of. As many pages are dirty as may be,
+-- and none makes room. That too many operations are pending is answered only to an ask, at once.
+abbrev pub AnswersRight : Bounds → Turn → AppAnswer → Type 0
+AnswersRight within t (answers.DiskFault number) = within.heard ≡ Some (HeardFailure number)
+AnswersRight within t answers.NotHolder = HearsRefusal within.heard
+AnswersRight within t (answers.NoSpace free wanted) = HearsRefusal within.heard
+AnswersRight within t (answers.Refused code) = HearsRefusal within.heard
+AnswersRight within t answers.TooManyLocks = (is_stuck_at within.limits t.here ≡ true) ⊎ HearsTooMany within.heard
+AnswersRight within t answers.DirtyFull = is_dirty_full_at within.limits t.here ≡ true
+AnswersRight within t answers.OpsFull = ⊥
+AnswersRight within t a = Unit {0}
+
+-- a message that is sent, or an answer
+abbrev pub SaysRight : Bounds → Turn → Output → Type 0
+SaysRight within t (outputs.Send m) = Sends t m
+SaysRight within t (outputs.Answer op a) = AnswersRight within t a
+SaysRight within t o = Unit {0}
+
+-- an answer to an application
+abbrev pub IsAnswer : Bounds → Turn → Output → Type 0
+IsAnswer within t (outputs.Answer op a) = AnswersRight within t a
+IsAnswer within t o = ⊥
+
+-- an answer, or a word of the third form; but not the end of a life
+abbrev pub PlainWord : Heard → ThirdTurn → ThirdOutput → Type 0
+PlainWord got t (says.Plain o) = IsAnswer (bounds got t) t.plain o
+PlainWord got t (says.Left op) = HasLeave t op
+PlainWord got t (says.Ended s life end) = ⊥
+PlainWord got t o = Unit {0}
+
+-- A change of the first two forms, within bounds. It begins no session, sends nothing else, and answers
+-- nothing without a cause. It asks for no longer run, changes a page only if there is room for it, and
+-- leaves no more clean pages than may be. A lock and an epoch that are new were heard.
 abbrev pub Continues : (within : Bounds) (now : Stamp) (t u : Turn) → Change now t u → Type 0
 Continues within now t _ (client.Begins _ s a b c) = ⊥
-Continues within now t _ (client.Says _ o p) = SendsRight t o
+Continues within now t _ (client.Says _ o p) = SaysRight within t o
+Continues within now t _ (client.Answers _ os ops a) = AnswersRight within t a
 Continues within now t _ (client.Follows _ s u e g) = (AsksRight within.run t.here.store s u g.how) × (GoesOnBy within.heard t.here (Some s) u)
 Continues within now t _ (client.Caches _ clean) = length clean ≤ t.here.store.pages.most_clean
-Continues within now t _ (client.Writes _ s f p bytes n se sv own m h) = is_dirty_full within.dirty t.here.store.pages f.ino p ≡ false
+Continues within now t _ (client.Writes _ s f p bytes n se sv own m h) = is_dirty_full within.limits.dirty t.here.store.pages f.ino p ≡ false
 Continues within now t u c = Unit {0}
 
 -- How the limit of runs changes: it stays, is whole again, or is less than the blocks that the
@@ -174,7 +220,7 @@ pub data ThirdChange (got : Heard) (now : Stamp) : ThirdTurn → ThirdTurn → T
   -- one that the first two forms make too
   Plainly : (t : ThirdTurn) (u : Turn) (c : Change now t.plain u) → Continues (bounds got t) now t.plain u c → ThirdChange got now t (with_plain u t)
   -- a word
-  Says : (t : ThirdTurn) (o : ThirdOutput) → PlainWord t o → ThirdChange got now t (say t o)
+  Says : (t : ThirdTurn) (o : ThirdOutput) → PlainWord got t o → ThirdChange got now t (say t o)
   -- other leaves are pending
   Leaves : (t : ThirdTurn) (ls : List Leave) → ArePending got t.leaves ls → ThirdChange got now t (with_leaves ls t)
   -- other uses are owed, or runs have another limit, or the server was full at another time
@@ -198,18 +244,18 @@ pub data ThirdChanges (got : Heard) (now : Stamp) : ThirdTurn → ThirdTurn → 
   Then : (t u v : ThirdTurn) → ThirdChange got now t u → ThirdChanges got now u v → ThirdChanges got now t v
 
 -- Losing: a lease that has ended is lost, with a note, and nothing is left of the association but its
--- lost rows. Nothing is heard; so it is with the ends of commands and with the passes.
+-- lost rows. Nothing is heard; so it is with the passes.
 pub data ThirdLoses (now : Stamp) (t : ThirdTurn) : ThirdTurn → Type 0 where
   Lasts : is_ended t.plain.config now (session t) ≡ false → ThirdLoses now t t
   IsLost : (s : ClientSession) (v : ThirdTurn) → session t ≡ Some s → is_ended t.plain.config now (session t) ≡ true →
       ThirdChanges None now (with_plain (noted_lost t.plain) t) v → ThirdLoses now t (emptied v)
 
 -- Ending: the end of the command of a number, done or failed, changes the pages of the association; and
--- changes follow.
+-- changes follow. That it failed is heard.
 pub record ThirdFinishes (now : Stamp) (number : ℕ) (ok : Bool) (t u : ThirdTurn) : Type 0 where
   pub middle : Turn
   pub ends : Ends number ok t.plain middle
-  pub rest : ThirdChanges None now (with_plain middle t) u
+  pub rest : ThirdChanges (heard_end number ok) now (with_plain middle t) u
 
 -- Leaving: a life ends that has nothing left at its server, with the lease end that it has then.
 pub data ThirdLeaves (now : Stamp) (t : ThirdTurn) : ThirdTurn → Type 0 where

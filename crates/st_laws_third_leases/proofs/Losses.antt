@@ -135,14 +135,14 @@ plainly_adds t u n =
     sym (append_assoc t.said (map plain_output t.plain.out) (map plain_output n.more)))
     (λ o h. let z = has_map plain_output n.more o h in subst NoLoss (sym z.2) (n.right z.0 z.1))
 
-word_noted : (t : ThirdTurn) (o : ThirdOutput) → PlainWord t o → NoLoss o
-word_noted t (says.Plain (outputs.Send m)) w = tt
-word_noted t (says.Plain (outputs.Submit number at what)) w = tt
-word_noted t (says.Plain (outputs.Answer op a)) w = tt
-word_noted t (says.Plain (outputs.Note n)) w = absurd w
-word_noted t (says.Left op) w = tt
-word_noted t (says.Unsynced op ino) w = tt
-word_noted t (says.Ended s life end) w = tt
+word_noted : (got : Heard) (t : ThirdTurn) (o : ThirdOutput) → PlainWord got t o → NoLoss o
+word_noted got t (says.Plain (outputs.Send m)) w = tt
+word_noted got t (says.Plain (outputs.Submit number at what)) w = tt
+word_noted got t (says.Plain (outputs.Answer op a)) w = tt
+word_noted got t (says.Plain (outputs.Note n)) w = absurd w
+word_noted got t (says.Left op) w = tt
+word_noted got t (says.Unsynced op ino) w = tt
+word_noted got t (says.Ended s life end) w = tt
 
 one_noted_word : (o : ThirdOutput) → NoLoss o → (x : ThirdOutput) → Has x (o ∷ []) → NoLoss x
 one_noted_word o n x (inl e) = subst NoLoss (sym e) n
@@ -161,7 +161,7 @@ third_adds : (got : Heard) (now : Stamp) (t u : ThirdTurn) → ThirdChange got n
 unfolding say plainly
 third_adds got now t _ (Plainly _ u c k) = plainly_adds t u (change_noted now t.plain u c)
 third_adds got now t _ (Says _ o w) =
-    adds_more t (say t o) (o ∷ []) (sym (nothing_after (all_said t ++ o ∷ []))) (one_noted_word o (word_noted t o w))
+    adds_more t (say t o) (o ∷ []) (sym (nothing_after (all_said t ++ o ∷ []))) (one_noted_word o (word_noted got t o w))
 third_adds got now t _ (Leaves _ ls pending) = λ o h. inl h
 third_adds got now t _ (IsBeside _ b l) = λ o h. inl h
 third_adds got now t _ (WaitsForRoom _ n) = λ o h. inl h
@@ -184,7 +184,7 @@ ends_same number ok t _ (Fails x v e o w q) = refl
 finishes_add : (now : Stamp) (number : ℕ) (ok : Bool) (t u : ThirdTurn) → ThirdFinishes now number ok t u → Adds t u
 finishes_add now number ok t u f =
     adds_then t (with_plain f.middle t) u (plainly_adds t f.middle (nothing_noted t.plain f.middle (ends_same number ok t.plain f.middle f.ends)))
-    (changes_add None now (with_plain f.middle t) u f.rest)
+    (changes_add _ now (with_plain f.middle t) u f.rest)
 
 leaves_add : (now : Stamp) (t u : ThirdTurn) → ThirdLeaves now t u → Adds t u
 unfolding say plainly

@@ -224,7 +224,7 @@ changes_go got now t _ (Still _) =
     record { keeps = keeps_same (view (session t)); more = []; said = nothing_after (all_said t); words = λ p o h. absurd h }
 changes_go got now t v (Then _ u _ c cs) = joined (changes_go got now u v cs)
   where
-    w : SaysMore t u
+    w : SaysMore (bounds got t) t u
     w = change_says now t u c
 
     k : KeepsOn (view (session t)) (view (session u))
