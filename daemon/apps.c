@@ -7,10 +7,7 @@
  * `carry NODE` (frames to that node are lost, or carried again), `slow MS` (each disk command waits
  * for that long), and `fail N` (the next N disk commands fail). */
 #include "tankd.h"
-#include <errno.h>
-#include <fcntl.h>
 #include <stdio.h>
-#include <string.h>
 
 enum {
     LINE_MOST = 8192,

@@ -1,7 +1,6 @@
 /* config.c: reads the configuration. `#` begins a comment. */
 #include "tankd.h"
 #include <netdb.h>
-#include <string.h>
 
 struct config config = {.clients = CLIENTS_MOST,
                         .journal_bytes = 64 << 20,
@@ -9,6 +8,7 @@ struct config config = {.clients = CLIENTS_MOST,
                         .log = LEVEL_NOTICE,
                         .hold = 20,
                         .disk_time = UINT64_MAX,
+                        .ops = UINT32_MAX,
                         .mount_server = 1};
 
 enum { WORDS_MOST = 5 };
@@ -129,7 +129,8 @@ static struct setting {
     NUMBER("trials", OPTIONAL, trials, 0, 1),
     NUMBER("trial-ahead", TRIAL, ahead, 0, 1 << 20),
     NUMBER("trial-elsewhere", TRIAL, elsewhere, 0, 1),
-    NUMBER("trial-torn", TRIAL, torn, 0, 1)};
+    NUMBER("trial-torn", TRIAL, torn, 0, 1),
+    NUMBER("trial-asks", TRIAL, ops, 17, UINT32_MAX)};
 
 static struct setting *setting_of(const char *name) {
     for (struct setting *it = settings; it < settings + G_N_ELEMENTS(settings); it++)

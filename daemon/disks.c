@@ -2,11 +2,7 @@
  * device, or a part of one. A block has 8,192 bytes there: its tag, its page, and the CRC-32 of
  * both; the rest is zeros. */
 #include "tankd.h"
-#include <endian.h>
-#include <errno.h>
-#include <fcntl.h>
 #include <stdatomic.h>
-#include <string.h>
 #include <sys/eventfd.h>
 #include <sys/stat.h>
 #include <zlib.h>
@@ -52,7 +48,6 @@ static _Atomic uint64_t under_way;    /* commands that were submitted and haven'
 static _Atomic int64_t slow, failing; /* for trials */
 static struct { _Atomic uint64_t life, end; } leases[SERVERS_MOST + 1];
 
-static GQueue spare = G_QUEUE_INIT;          /* memory of commands that were reported */
 static uint64_t submitted[SERVERS_MOST + 1]; /* writes that haven't ended */
 
 /* The threads. A block that was read is whole, or was never written. The sum tells a write of which
@@ -104,20 +99,15 @@ static void sync_writes(int file, struct command **batch, int size, uint16_t dis
     }
 }
 
-static int take_batch(GAsyncQueue *waiting, struct command **batch) {
-    int size = 1;
-    g_async_queue_lock(waiting);
-    batch[0] = g_async_queue_pop_unlocked(waiting);
-    while (size < BATCH && (batch[size] = g_async_queue_try_pop_unlocked(waiting))) size++;
-    g_async_queue_unlock(waiting);
-    return size;
-}
-
 static void *work(void *worker) {
     const struct worker *self = worker;
     struct command *batch[BATCH];
-    for (;;) {
-        int size = take_batch(self->waiting, batch);
+    for (int size = 1;; size = 1) {
+        g_async_queue_lock(self->waiting);
+        batch[0] = g_async_queue_pop_unlocked(self->waiting);
+        while (size < BATCH && (batch[size] = g_async_queue_try_pop_unlocked(self->waiting)))
+            size++;
+        g_async_queue_unlock(self->waiting);
         for (int i = 0; i < size; i++) begin(self->files, batch[i]);
         for (uint16_t disk = 1; disk <= config.disks; disk++)
             sync_writes(self->files[disk], batch, size, disk);
@@ -131,18 +121,8 @@ static void *work(void *worker) {
     return NULL;
 }
 
-/* The loop */
-
 /* A write that took effect after its lease breaks a premise of the protocol: the disk was slower
  * than `disk-time` says. */
-static void check_time(const struct command *it) {
-    uint64_t effect = clock_at(it->effect);
-    bool lasts = leases[it->server].life == it->life && effect < leases[it->server].end;
-    if (!it->writes || !it->effect || lasts || effect < it->until) return;
-    count(COUNT_DISK_LATE);
-    say(LEVEL_WARNING, "a write to disk %d took effect after its lease", it->disk);
-}
-
 static void report(struct command *it) {
     const struct block *block = &it->block;
     struct tank_done done = {
@@ -152,15 +132,19 @@ static void report(struct command *it) {
                                      be32toh(block->page), be16toh(block->server)};
     count(it->writes ? COUNT_DISK_WRITES : COUNT_DISK_READS);
     if (it->end == TANK_END_FAILED) count(COUNT_DISK_FAILED);
-    check_time(it);
+    uint64_t effect = clock_at(it->effect), of_life = leases[it->server].life;
+    uint64_t end = of_life == it->life ? MAX(it->until, leases[it->server].end) : it->until;
+    if (it->writes && it->effect && effect >= end) {
+        count(COUNT_DISK_LATE);
+        say(LEVEL_WARNING, "a write to disk %d took effect after its lease", it->disk);
+    }
     node_command_ended(&done, block->bytes, it->effect);
     if (it->writes && submitted[it->server]) submitted[it->server]--;
 }
 
 /* What is reported may make the client fence itself, which drops the rest. */
 static void hear_ends(UNUSED_OF_EVENT) {
-    for (struct command *it; (it = g_async_queue_try_pop(ended)); g_queue_push_head(&spare, it))
-        report(it);
+    for (struct command *it; (it = g_async_queue_try_pop(ended)); free(it)) report(it);
 }
 
 static int open_disk(uint16_t disk) {
@@ -186,8 +170,7 @@ void disks_begin(void) {
 }
 
 void disks_submit(const uint8_t *frame, size_t size) {
-    struct command *it = g_queue_pop_head(&spare);
-    if (!it) it = aligned_alloc(TANK_PAGE, sizeof *it);
+    struct command *it = aligned_alloc(TANK_PAGE, sizeof *it);
     if (!it) fail("out of memory");
     memset(it, 0, offsetof(struct command, block));
     memset(&it->block + 1, 0, SLOT - sizeof it->block);
@@ -218,10 +201,9 @@ bool disks_write(uint16_t server) { return submitted[server]; }
 void disks_drop(void) {
     struct command *it;
     for (uint64_t i = 0; i < config.workers; i++)
-        for (; (it = g_async_queue_try_pop(workers[i].waiting)); under_way--)
-            g_queue_push_head(&spare, it);
+        for (; (it = g_async_queue_try_pop(workers[i].waiting)); under_way--) free(it);
     while (under_way) g_usleep(100); /* this is rare */
-    for (; (it = g_async_queue_try_pop(ended)); g_queue_push_head(&spare, it))
+    for (; (it = g_async_queue_try_pop(ended)); free(it))
         if (it->effect) report(it);
     memset(submitted, 0, sizeof submitted);
 }

@@ -1,10 +1,6 @@
 /* keep.c: what outlives a crash of the node: the clock, a client's lives, a server's journal. */
 #include "tankd.h"
-#include <endian.h>
-#include <errno.h>
-#include <fcntl.h>
 #include <stdio.h>
-#include <string.h>
 #include <sys/file.h>
 #include <time.h>
 
@@ -61,8 +57,6 @@ static void keep_text(const char *kind, const char *text) {
     put_in_place(kind, file);
 }
 
-/* The clock */
-
 uint64_t clock_moment(void) {
     struct timespec now;
     if (clock_gettime(CLOCK_BOOTTIME, &now)) fail("this machine has no CLOCK_BOOTTIME");
@@ -103,8 +97,6 @@ static void begin_clock(void) {
     if (strcmp(of, boot)) added = ceiling;
 }
 
-/* A client's lives */
-
 void lives_keep(void) {
     GString *text = g_string_new(NULL);
     g_string_printf(text, "tank lives 1 %lu %lu", lives.moment, lives.asks);
@@ -122,8 +114,6 @@ static void read_lives(void) {
     if (found != 2) fail("the file of lives has none at %d servers", (int)config.servers);
     fclose(file);
 }
-
-/* A server's journal. Each write to its file returns when it is synced. */
 
 uint8_t *journal_read(void) {
     uint8_t *bytes = g_malloc(journal_room);

@@ -3,7 +3,6 @@
  * two bytes, the client's node in two bytes, the highest first, and the sum of what all nodes have
  * in common. */
 #include "tankd.h"
-#include <string.h>
 
 enum {
     GREETING = 16,

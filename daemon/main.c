@@ -2,7 +2,6 @@
 #include "tankd.h"
 #include <signal.h>
 #include <stdio.h>
-#include <string.h>
 #include <systemd/sd-daemon.h>
 
 static const char summary[] = "Runs a server or a client of the protocol. The file says where the "
@@ -30,8 +29,6 @@ static const GOptionEntry options[] = {
     {G_OPTION_REMAINING, 0, 0, G_OPTION_ARG_STRING_ARRAY, &words.others, NULL, NULL},
     {NULL, 0, 0, 0, NULL, NULL, NULL}};
 
-/* The log */
-
 const char *const level_words[LEVELS] = {"error", "warning", "notice", "debug"};
 
 void say(enum level level, const char *format, ...) {
@@ -48,8 +45,6 @@ void say(enum level level, const char *format, ...) {
 void must(uint32_t result) {
     if (result != TANK_DONE) fail("%s: %s", tank_name(result), tank_text(result));
 }
-
-/* The command line */
 
 static void read_words(int count, char **word) {
     GOptionContext *context = g_option_context_new("server|client NUMBER, or: ask SOCKET");
@@ -87,8 +82,6 @@ static void check_words(void) {
     if (is_tcp && !config.is_insecure && !tls_load()) exit(1);
     config.name = g_strdup(word_of_node(config.node));
 }
-
-/* The loop */
 
 struct event_base *base;
 static bool is_over;

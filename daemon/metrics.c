@@ -8,14 +8,20 @@ static _Atomic uint64_t counts[COUNTS_END];
 
 void count(enum count it) { atomic_fetch_add_explicit(&counts[it], 1, memory_order_relaxed); }
 
-void metric_head(struct evbuffer *text, const char *name, const char *kind, const char *what) {
+void metric_head(struct evbuffer *text, const char *name, const char *what) {
+    const char *kind = g_str_has_suffix(name, "_total") ? "counter" : "gauge";
     evbuffer_add_printf(text, "# HELP tank_%s %s\n# TYPE tank_%s %s\n", name, what, name, kind);
 }
 
-void metric(struct evbuffer *text, const char *name, const char *kind, const char *what,
-            uint64_t value) {
-    metric_head(text, name, kind, what);
-    evbuffer_add_printf(text, "tank_%s{node=\"%s\"} %lu\n", name, config.name, value);
+void metric_value(struct evbuffer *text, const char *name, uint16_t server, uint64_t value) {
+    evbuffer_add_printf(text, "tank_%s{node=\"%s\"", name, config.name);
+    if (server) evbuffer_add_printf(text, ",server=\"s%d\"", server);
+    evbuffer_add_printf(text, "} %lu\n", value);
+}
+
+void metric(struct evbuffer *text, const char *name, const char *what, uint64_t value) {
+    metric_head(text, name, what);
+    metric_value(text, name, 0, value);
 }
 
 /* A request of HTTP, for anything, and its response. */
@@ -26,9 +32,9 @@ static bool take(struct stream *it, struct evbuffer *in) {
         return evbuffer_get_length(in) <= REQUEST_MOST;
     evbuffer_add_printf(out, "HTTP/1.0 200 OK\r\nContent-Type: text/plain; version=0.0.4\r\n"
                              "Connection: close\r\n\r\n");
-#define PRINTED(number, name, what) metric(out, name, "counter", what, counts[COUNT_##number]);
+#define PRINTED(number, name, what) metric(out, name, what, counts[COUNT_##number]);
     COUNTS(PRINTED)
-    metric(out, "links", "gauge", "Nodes that are connected.", (uint64_t)links_up());
+    metric(out, "links", "Nodes that are connected.", (uint64_t)links_up());
     node_print(out);
     return it->is_last = true;
 }

@@ -2,14 +2,13 @@
  * and what it gave leaves the daemon. What a program around a node owes (docs/PROTOCOL.md,
  * "Building on it"), and where it is done:
  *
- *   Lives before frames: step and begin_client keep them; give_all comes later.
+ *   Lives before frames: step and begin keep them; give_all comes later.
  *   The record, then the gate, then the frames: keep_record, before give_all.
  *   A journal's disk, and one journal for each server, with the same settings and shape: keep.c.
  *   One clock for each node, which never falls: keep.c.
  *   The clocks' rates: keep.c. CLOCK_BOOTTIME counts while the machine sleeps.
  *   The reading is taken when the step is taken: node_take.
- *   Ticks, and a flush that was missed: tick, tick_time, flush_begins, set_tick, is_flush_missed,
- *     fence.
+ *   Ticks, and a flush that was missed: tick, set_tick, is_flush_missed, node_take.
  *   Disk commands in time, and disks of blocks: disks.c.
  *   An ask's number is used once: asks.c, new_op.
  *   Frames arrive as they were sent, and `from` is that of the peer: links.c, node_hear.
@@ -19,11 +18,9 @@
  * The library doesn't have groups of changes, snapshots and `leave` yet. When it does, groups and
  * snapshots belong in keep_record, and `leave` in node_end. */
 #include "tankd.h"
-#include <endian.h>
-#include <string.h>
 
 enum {
-    TICK = 100,    /* milliseconds at most */
+    TICK = 100,    /* milliseconds at most between two ticks of a client that needs them */
     BODY = 4 + 38, /* where the body of a message begins in its frame ("Wire") */
     FLUSH = 4,     /* a phase of a lease */
 };
@@ -44,12 +41,10 @@ static struct tank_client client = TANK_CLIENT_CLOSED;
 static struct tank_server server = TANK_SERVER_CLOSED;
 static GByteArray *given; /* the frames of the last step */
 static GQueue held = G_QUEUE_INIT;
-static struct event *held_timer, *end_timer, *ticks;
+static struct event *wake, *end, *ticks;
 static uint64_t gate;   /* a server's, of its journal */
 static uint64_t ticked; /* the reading at which a client got its last tick */
 static uint64_t end_by; /* the moment at which the daemon ends, at the latest; 0 before SIGTERM */
-
-/* Keeping what a step changed */
 
 /* Keeps the change of a server's step: the record, a sync, its gate, a sync. */
 static void keep_record(void) {
@@ -65,8 +60,6 @@ static void keep_record(void) {
 }
 
 static void keep_lives(uint64_t moment) {
-    for (uint16_t number = 1; number <= config.servers; number++)
-        lives.life[number] = leases[number].at.life;
     lives.moment = clock_told(moment); /* as in the trace */
     lives_keep();
 }
@@ -77,55 +70,59 @@ static void note_leases(uint64_t now) {
         must(tank_client_at(&client, number, now, at));
         if (at->phase == FLUSH) leases[number].flushed = at->lease_end;
         disks_lease(number, at->life, at->lease_end);
+        lives.life[number] = at->life;
     }
 }
 
-/* Opening */
-
-static void begin_server(void) {
+static void open_server(uint64_t now, const uint8_t *journal) {
     const struct tank_shape shape = {.id = config.number,
                                      .servers = (uint16_t)config.servers,
                                      .disks = (uint16_t)config.disks,
                                      .blocks = (uint32_t)config.blocks};
-    uint64_t at = 0, moment = clock_moment(), now = clock_for_step(moment);
-    g_autofree uint8_t *journal = journal_read();
-    bool is_again = journal[0] == 1;
-    trace_start(is_again, moment, now);
+    uint64_t at = 0;
     uint32_t result =
         tank_server_open(&server, &config.settings, &shape, now, journal, journal_room, &at);
     if (result != TANK_DONE)
         fail("the journal, at byte %lu: %s: %s", at, tank_name(result), tank_text(result));
     keep_record();
-    if (is_again) trace("\n");
-    trace_flush();
-    if (config.is_traced) mark_keep(gate);
     say(LEVEL_NOTICE, "epoch %lu begins; the journal has %lu of %lu bytes",
         tank_server_epoch(&server), gate, journal_room);
 }
 
 /* Opens the client, in the lives after those that were kept. */
-static void begin_client(void) {
-    uint64_t moment = clock_moment(), now = clock_for_step(moment), *life = lives.life + 1;
-    bool is_again = *life != 0;
-    trace_start(is_again, moment, now);
-    must(tank_client_open(&client, &config.settings, config.number, life, config.servers));
+static void open_client(uint64_t now, uint64_t moment) {
+    const uint64_t *kept = lives.life + 1;
+    must(tank_client_open(&client, &config.settings, config.number, kept, config.servers));
     memset(leases, 0, sizeof leases);
     note_leases(now);
     keep_lives(moment);
-    if (is_again) trace("\n");
-    trace_flush();
 }
 
-/* A client whose flush was missed */
+static void begin(void) {
+    uint64_t moment = clock_moment(), now = clock_for_step(moment);
+    g_autofree uint8_t *journal = config.is_server ? journal_read() : NULL;
+    bool is_again = journal ? journal[0] == 1 : lives.life[1] != 0;
+    trace_start(is_again, moment, now);
+    if (config.is_server) open_server(now, journal);
+    else open_client(now, moment);
+    if (is_again) trace("\n");
+    trace_flush();
+    if (config.is_server && config.is_traced) mark_keep(gate);
+}
+
+/* The end of a lease with dirty pages that no step has found in flush, or TANK_NEVER. */
+static uint64_t end_unflushed(const struct lease *it) {
+    bool is_flushed = !it->at.dirty || it->flushed == it->at.lease_end;
+    return it->at.lease_end && !is_flushed ? it->at.lease_end : TANK_NEVER;
+}
 
 /* Whether a lease ended while pages were dirty and no step found it in flush, or while a write was
  * still under way: the client wasn't woken in time. */
 static bool is_flush_missed(uint64_t now) {
     for (uint16_t number = 1; number <= config.servers; number++) {
-        const struct lease *it = &leases[number];
-        uint64_t end = it->at.lease_end;
-        bool is_flushed = it->flushed == end && !disks_write(number);
-        if (end && now >= end && it->at.dirty && !is_flushed) return true;
+        const struct tank_association *at = &leases[number].at;
+        bool is_over = at->dirty && at->lease_end && now >= at->lease_end;
+        if (now >= end_unflushed(&leases[number]) || (is_over && disks_write(number))) return true;
     }
     return false;
 }
@@ -145,20 +142,7 @@ static void fence(void) {
     count(COUNT_FENCED);
     close_client();
     asks_drop();
-    begin_client();
-}
-
-/* What a step gave */
-
-static void note_event(const struct tank_event *it) {
-    bool is_suspected = it->event == TANK_EVENT_SUSPECTED;
-    if (it->event == TANK_EVENT_LOST)
-        say(LEVEL_WARNING, "the lease at server %d was lost in life %lu", it->server, it->life);
-    if (!is_suspected && it->event != TANK_EVENT_STOLEN) return;
-    count(is_suspected ? COUNT_SUSPECTED : COUNT_STOLEN);
-    say(LEVEL_WARNING, "client %d is %s", it->client,
-        is_suspected ? "suspected" : "robbed of its locks");
-    hook_run(is_suspected ? "suspected" : "stolen", it->client);
+    begin();
 }
 
 /* Notes what the last step told beside its frames. */
@@ -166,14 +150,23 @@ static void note_events(void) {
     static struct tank_event *events;
     static size_t room;
     uint32_t result = TANK_SHORT_ROOM;
-    size_t count = 0;
+    size_t told = 0;
     while (result == TANK_SHORT_ROOM) {
-        events = g_renew(struct tank_event, events, room = room + count);
-        result = config.is_server ? tank_server_events(&server, events, room, &count)
-                                  : tank_client_events(&client, events, room, &count);
+        events = g_renew(struct tank_event, events, room = room + told);
+        result = config.is_server ? tank_server_events(&server, events, room, &told)
+                                  : tank_client_events(&client, events, room, &told);
     }
     must(result);
-    for (size_t i = 0; i < count; i++) note_event(&events[i]);
+    for (const struct tank_event *it = events; it < events + told; it++) {
+        bool is_suspected = it->event == TANK_EVENT_SUSPECTED;
+        if (it->event == TANK_EVENT_LOST)
+            say(LEVEL_WARNING, "the lease at server %d was lost in life %lu", it->server, it->life);
+        if (!is_suspected && it->event != TANK_EVENT_STOLEN) continue;
+        count(is_suspected ? COUNT_SUSPECTED : COUNT_STOLEN);
+        say(LEVEL_WARNING, "client %d is %s", it->client,
+            is_suspected ? "suspected" : "robbed of its locks");
+        hook_run(is_suspected ? "suspected" : "stolen", it->client);
+    }
 }
 
 static void give_all(void) {
@@ -188,8 +181,6 @@ static void give_all(void) {
     g_byte_array_set_size(given, 0);
 }
 
-/* Steps */
-
 /* Takes a step, keeps what must be kept, and takes out the frames that it gave. */
 static uint32_t step(uint64_t moment, uint64_t now, const uint8_t *frame, size_t size) {
     struct tank_server_stepped of_server = {0};
@@ -200,13 +191,13 @@ static uint32_t step(uint64_t moment, uint64_t now, const uint8_t *frame, size_t
     if (of_server.record) keep_record();
     if (!config.is_server) note_leases(now);
     if (of_client.new_lives) keep_lives(moment);
-    for (size_t count = 1; count;) {
+    for (size_t taken = 1; taken;) {
         unsigned used = given->len;
         g_byte_array_set_size(given, used + TANK_FRAME_MOST);
         uint8_t *room = given->data + used;
-        must(config.is_server ? tank_server_take(&server, room, TANK_FRAME_MOST, &count)
-                              : tank_client_take(&client, room, TANK_FRAME_MOST, &count));
-        g_byte_array_set_size(given, used + (unsigned)count);
+        must(config.is_server ? tank_server_take(&server, room, TANK_FRAME_MOST, &taken)
+                              : tank_client_take(&client, room, TANK_FRAME_MOST, &taken));
+        g_byte_array_set_size(given, used + (unsigned)taken);
     }
     return TANK_DONE;
 }
@@ -225,37 +216,19 @@ static void note_untaken(uint32_t result) {
     is_said = true;
 }
 
-/* The least time between two ticks of a client; one fits into each flush phase. Without it, a disk
- * that fails would be given the same write at once, again and again. */
-static uint64_t tick_time(void) {
-    return CLAMP((config.settings.lease - config.settings.flush) / 2, 1, TICK);
-}
-
-/* When the first flush phase begins, of a lease with dirty pages that no step has found in flush. A
- * step must find it there, even with nothing to do (is_flush_missed). */
-static uint64_t flush_begins(void) {
-    uint64_t first = TANK_NEVER, length = config.settings.lease - config.settings.flush;
-    for (uint16_t number = 1; number <= config.servers; number++) {
-        const struct lease *it = &leases[number];
-        uint64_t end = it->at.lease_end;
-        if (end && it->at.dirty && it->flushed != end) first = MIN(first, end - length);
-    }
-    return first;
-}
-
-/* When a client gets its next tick. */
-static uint32_t client_due(uint64_t now, uint64_t *due) {
-    uint32_t result = tank_client_due(&client, now, due);
-    if (result != TANK_DONE) return result;
-    *due = MAX(MIN(*due, flush_begins()), ticked + tick_time());
-    return TANK_DONE;
-}
-
-/* A node gets its next tick when it is due. If it can't be asked, it gets one soon. */
+/* A node gets its next tick when it is due; if it can't be asked, soon. A client with dirty pages
+ * also gets one when the flush phase begins: a step must find it there, even with nothing to do
+ * (is_flush_missed). Between two ticks of a client is some time, of which one fits into each flush
+ * phase: otherwise a disk that fails would be given the same write at once, again and again. */
 static void set_tick(uint64_t now) {
+    const uint64_t length = config.settings.lease - config.settings.flush;
     uint64_t due;
-    if ((config.is_server ? tank_server_due(&server, &due) : client_due(now, &due)) != TANK_DONE)
-        due = now + TICK;
+    uint32_t result =
+        config.is_server ? tank_server_due(&server, &due) : tank_client_due(&client, now, &due);
+    if (result != TANK_DONE) due = now + TICK;
+    for (const struct lease *it = leases; it < leases + SERVERS_MOST + 1; it++)
+        if (end_unflushed(it) != TANK_NEVER) due = MIN(due, end_unflushed(it) - length);
+    if (!config.is_server) due = MAX(due, ticked + CLAMP(length / 2, 1, TICK));
     if (due == TANK_NEVER) event_del(ticks);
     else timer_set(ticks, due > now ? due - now : 0);
 }
@@ -305,22 +278,13 @@ void node_command_ended(const struct tank_done *done, const uint8_t *page, uint6
     node_take(frame, size);
 }
 
-/* Frames of other nodes */
-
-static uint32_t ino_in(const uint8_t *frame) {
-    uint32_t it;
-    memcpy(&it, frame + BODY, sizeof it);
-    return be32toh(it);
-}
-
 /* Whether a demand would take the lock before the ask that waits for it is served. */
 static bool is_early(const uint8_t *frame, uint16_t from) {
-    uint32_t is_owed;
-    must(tank_client_owes(&client, from - TANK_SERVER_NODE(0), ino_in(frame), &is_owed));
+    uint32_t ino, is_owed;
+    memcpy(&ino, frame + BODY, sizeof ino);
+    must(tank_client_owes(&client, from - TANK_SERVER_NODE(0), be32toh(ino), &is_owed));
     return is_owed;
 }
-
-static void wake(UNUSED_OF_EVENT) {} /* node_between takes what was held, or ends */
 
 /* Takes the demands that are no longer early. */
 static void take_held(void) {
@@ -328,7 +292,7 @@ static void take_held(void) {
     for (unsigned left = held.length; left && held.head; left--) {
         struct held *it = g_queue_pop_head(&held);
         if (now < it->due && is_early(it->frame, it->from)) {
-            timer_set(held_timer, (it->due - now) / MILLISECOND + 1);
+            timer_set(wake, (it->due - now) / MILLISECOND + 1);
             g_queue_push_tail(&held, it);
             continue;
         }
@@ -337,15 +301,13 @@ static void take_held(void) {
     }
 }
 
-static bool is_input(uint16_t kind) {
-    return config.is_server ? kind >= TANK_KIND_HELLO && kind <= TANK_KIND_DEMANDSEEN
-                            : kind >= TANK_KIND_WELCOME && kind <= TANK_KIND_REASSERTED;
-}
-
 void node_hear(const uint8_t *frame, size_t size) {
     struct tank_frame front;
     must(tank_frame_at(frame, size, &front));
-    if (front.to != config.node || !is_input(front.kind) || size < BODY) {
+    bool is_input = config.is_server
+                        ? front.kind >= TANK_KIND_HELLO && front.kind <= TANK_KIND_DEMANDSEEN
+                        : front.kind >= TANK_KIND_WELCOME && front.kind <= TANK_KIND_REASSERTED;
+    if (front.to != config.node || !is_input || size < BODY) {
         count(COUNT_FRAMES_BAD);
         return;
     }
@@ -355,9 +317,7 @@ void node_hear(const uint8_t *frame, size_t size) {
         return;
     }
     struct held *it = g_malloc(sizeof *it + size);
-    it->due = clock_moment() + config.hold * MILLISECOND;
-    it->from = front.from;
-    it->size = size;
+    *it = (struct held){clock_moment() + config.hold * MILLISECOND, size, front.from};
     memcpy(it->frame, frame, size);
     g_queue_push_tail(&held, it);
     count(COUNT_HELD);
@@ -373,23 +333,24 @@ void node_between(void) {
     if (end_by && (asks_are_synced() || clock_moment() >= end_by)) loop_end();
 }
 
-/* The beginning and the end */
+/* What was waited for is done by node_between. */
+static void woken(UNUSED_OF_EVENT) {}
 
 void node_begin(void) {
     given = g_byte_array_new();
-    held_timer = evtimer_new(base, wake, NULL);
-    end_timer = evtimer_new(base, wake, NULL);
+    wake = evtimer_new(base, woken, NULL);
+    end = evtimer_new(base, woken, NULL);
     ticks = evtimer_new(base, tick, NULL);
     if (!config.is_server) disks_begin();
-    if (config.is_server) begin_server();
-    else begin_client();
+    if (!config.is_server) asks_begin();
+    begin();
 }
 
 void node_end(void) {
     if (config.is_server) loop_end();
     else asks_end();
     end_by = clock_moment() + config.settings.lease * MILLISECOND;
-    timer_set(end_timer, config.settings.lease + 1);
+    timer_set(end, config.settings.lease + 1);
 }
 
 void node_close(void) {
@@ -398,25 +359,19 @@ void node_close(void) {
     trace_end();
 }
 
-/* A metric's value for a server. */
-static void metric_at(struct evbuffer *text, const char *name, uint16_t number, uint64_t value) {
-    evbuffer_add_printf(text, "tank_%s{node=\"%s\",server=\"s%d\"} %lu\n", name, config.name,
-                        number, value);
-}
-
 static void print_server(struct evbuffer *text) {
     struct tank_server_counted it;
     must(tank_server_counts(&server, &it));
-    metric(text, "epoch", "gauge", "The server's epoch.", tank_server_epoch(&server));
-    metric(text, "sessions", "gauge", "Clients with a session in this epoch.", it.sessions);
-    metric(text, "suspects", "gauge", "Clients that are suspected.", it.suspects);
-    metric(text, "locks", "gauge", "Locks of all clients.", it.locks);
-    metric(text, "waits", "gauge", "Waits for locks.", it.waits);
-    metric(text, "names", "gauge", "Entries of all directories.", it.names);
-    metric(text, "pages_mapped", "gauge", "Pages that have a block.", it.mapped);
-    metric(text, "blocks_free", "gauge", "Blocks that no page has.", it.free);
-    metric(text, "journal_bytes", "gauge", "Bytes of the journal that are used.", it.journal);
-    metric(text, "journal_room_bytes", "gauge", "Bytes of the journal.", it.journal_size);
+    metric(text, "epoch", "The server's epoch.", tank_server_epoch(&server));
+    metric(text, "sessions", "Clients with a session in this epoch.", it.sessions);
+    metric(text, "suspects", "Clients that are suspected.", it.suspects);
+    metric(text, "locks", "Locks of all clients.", it.locks);
+    metric(text, "waits", "Waits for locks.", it.waits);
+    metric(text, "names", "Entries of all directories.", it.names);
+    metric(text, "pages_mapped", "Pages that have a block.", it.mapped);
+    metric(text, "blocks_free", "Blocks that no page has.", it.free);
+    metric(text, "journal_bytes", "Bytes of the journal that are used.", it.journal);
+    metric(text, "journal_room_bytes", "Bytes of the journal.", it.journal_size);
 }
 
 static void print_client(struct evbuffer *text) {
@@ -424,9 +379,9 @@ static void print_client(struct evbuffer *text) {
     for (uint16_t number = 1; number <= config.servers; number++)
         must(tank_client_counts(&client, number, &it[number]));
 #define PRINTED(name, value, what)                                                                 \
-    metric_head(text, name, "gauge", what);                                                        \
+    metric_head(text, name, what);                                                                 \
     for (uint16_t number = 1; number <= config.servers; number++)                                  \
-        metric_at(text, name, number, value);
+        metric_value(text, name, number, value);
     PRINTED("lease_phase", leases[number].at.phase,
             "The lease: 1 valid, 2 renewal, 3 quiesce, 4 flush, 5 expired, 0 none.")
     PRINTED("locks", it[number].locks, "Files with a lock.")
@@ -435,7 +390,6 @@ static void print_client(struct evbuffer *text) {
     PRINTED("pages_clean", it[number].clean, "Pages that are as on the disks.")
     PRINTED("disk_commands", it[number].commands, "Disk commands that haven't ended.")
     PRINTED("asks_pending", it[number].pending, "Asks that haven't been answered.")
-#undef PRINTED
 }
 
 void node_print(struct evbuffer *text) {

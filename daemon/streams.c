@@ -2,13 +2,11 @@
  * mutual TLS 1.3, by OpenSSL: each node has a certificate that the authority of the configuration
  * signed, and that names the node, as the DNS name "s1" for instance. */
 #include "tankd.h"
-#include <errno.h>
 #include <event2/bufferevent_ssl.h>
 #include <event2/listener.h>
 #include <netinet/tcp.h>
 #include <openssl/err.h>
 #include <openssl/x509v3.h>
-#include <string.h>
 #include <sys/stat.h>
 #include <sys/un.h>
 
@@ -22,8 +20,6 @@ enum {
 
 static GQueue streams = G_QUEUE_INIT; /* the newest first */
 static SSL_CTX *context;
-
-/* Certificates */
 
 bool tls_load(void) {
     SSL_CTX *it = SSL_CTX_new(TLS_method());
@@ -48,8 +44,6 @@ bool stream_is(const struct stream *it, const char *node) {
     X509 *found = it->tls ? SSL_get0_peer_certificate(it->tls) : NULL;
     return !it->tls || (found && X509_check_host(found, node, 0, HOST_FLAGS, NULL) == 1);
 }
-
-/* What goes through a stream */
 
 void stream_drop(struct stream *it) {
     if (!it->pipe) return;
@@ -110,8 +104,6 @@ void streams_flush(void) {
         else if (!it->held) g_queue_remove(&streams, it), g_free(it);
     }
 }
-
-/* Opening one */
 
 /* A client expects the server of this name; a server's peer names itself later. */
 static struct stream *open_stream(const struct kind *kind, int file, bool is_unix,

@@ -3,12 +3,16 @@
 #ifndef TANKD_H
 #define TANKD_H
 #include "../include/tank.h"
+#include <endian.h>
+#include <errno.h>
 #include <event2/buffer.h>
 #include <event2/bufferevent.h>
 #include <event2/event.h>
+#include <fcntl.h>
 #include <glib.h>
 #include <openssl/ssl.h>
 #include <stdlib.h>
+#include <string.h>
 #include <sys/socket.h>
 #include <unistd.h>
 
@@ -40,7 +44,8 @@ extern struct config {
     uint64_t journal_bytes, workers, log;    /* `log` is a level */
     uint64_t hold, disk_time;                /* in milliseconds */
     uint64_t mount_server;                   /* the server whose files --mount shows */
-    uint64_t trials, ahead, elsewhere, torn; /* the last three are for trials */
+    uint64_t trials, ahead, elsewhere, torn; /* the last three are for trials, and */
+    uint64_t ops;                            /* how many different numbers asks have */
 } config;
 
 void config_read(const char *path);
@@ -80,7 +85,7 @@ uint64_t clock_told(uint64_t moment);
 
 extern struct lives {                        /* of a client; all are 0 before its first start */
     uint64_t moment, life[SERVERS_MOST + 1]; /* as in the trace; by server from 1 */
-    uint64_t asks;                           /* the first number that wasn't reserved for an ask */
+    uint64_t asks;                           /* the first number that isn't reserved for an ask */
 } lives;
 void lives_keep(void);
 
@@ -175,6 +180,7 @@ struct request {
     void (*answered)(struct request *, const struct reply *);
 };
 
+void asks_begin(void);
 void asks_put(struct request *);    /* it is given to the client when the client has room */
 void asks_forget(struct request *); /* from now on, it isn't answered */
 void asks_give(void);
@@ -232,8 +238,8 @@ void node_print(struct evbuffer *text); /* its metrics */
 enum count { COUNTS(COUNT_NUMBER) COUNTS_END };
 void count(enum count); /* any thread may count */
 void metrics_begin(void);
-void metric_head(struct evbuffer *, const char *name, const char *kind, const char *what);
-void metric(struct evbuffer *, const char *name, const char *kind, const char *what,
-            uint64_t value);
+void metric_head(struct evbuffer *, const char *name, const char *what);
+void metric_value(struct evbuffer *, const char *name, uint16_t server, uint64_t value); /* or 0 */
+void metric(struct evbuffer *, const char *name, const char *what, uint64_t value);      /* both */
 
 #endif

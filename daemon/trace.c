@@ -1,8 +1,5 @@
 /* trace.c: a trace of what the node took and gave. */
 #include "tankd.h"
-#include <errno.h>
-#include <fcntl.h>
-#include <string.h>
 
 enum {
     LENGTH = 4,      /* bytes of a frame's length */
