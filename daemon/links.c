@@ -86,6 +86,7 @@ static bool take(struct stream *it, struct evbuffer *in) {
         at += frame.size;
     }
     evbuffer_drain(in, at);
+    stream_flush(it); /* so that the peer goes on while this node does its other work */
     if (result != TANK_CUT) count(COUNT_FRAMES_BAD); /* what follows has no meaning */
     return result == TANK_CUT;
 }

@@ -8,9 +8,9 @@
  *   One clock for each node, which never falls: keep.c.
  *   The clocks' rates: keep.c. CLOCK_BOOTTIME counts while the machine sleeps.
  *   The reading is taken when the step is taken: node_take.
- *   Ticks, and a flush that was missed: tick, set_tick, is_flush_missed, node_take.
+ *   Ticks, and a flush that was missed: tick, next_tick, is_flush_missed, node_take.
  *   Disk commands in time, and disks of blocks: disks.c.
- *   An ask's number is used once: asks.c, new_op.
+ *   An ask's number is used once: asks.c, new_number.
  *   Frames arrive as they were sent, and `from` is that of the peer: links.c, node_hear.
  *   Frames from and to node 0 stay here: node_hear, give_all.
  *   Demands after grants: node_hear, is_early.
@@ -42,8 +42,9 @@ static struct tank_server server = TANK_SERVER_CLOSED;
 static GByteArray *given; /* the frames of the last step */
 static GQueue held = G_QUEUE_INIT;
 static struct event *wake, *end, *ticks;
-static uint64_t gate;   /* a server's, of its journal */
-static uint64_t ticked; /* the reading at which a client got its last tick */
+static bool is_asked_soon; /* for its next tick */
+static uint64_t gate;      /* a server's, of its journal */
+static uint64_t ticked;    /* the reading at which a client got its last tick */
 static uint64_t end_by; /* the moment at which the daemon ends, at the latest; 0 before SIGTERM */
 
 /* Keeps the change of a server's step: the record, a sync, its gate, a sync. */
@@ -220,7 +221,7 @@ static void note_untaken(uint32_t result) {
  * also gets one when the flush phase begins: a step must find it there, even with nothing to do
  * (is_flush_missed). Between two ticks of a client is some time, of which one fits into each flush
  * phase: otherwise a disk that fails would be given the same write at once, again and again. */
-static void set_tick(uint64_t now) {
+static uint64_t next_tick(uint64_t now) {
     const uint64_t length = config.settings.lease - config.settings.flush;
     uint64_t due;
     uint32_t result =
@@ -228,9 +229,13 @@ static void set_tick(uint64_t now) {
     if (result != TANK_DONE) due = now + TICK;
     for (const struct lease *it = leases; it < leases + SERVERS_MOST + 1; it++)
         if (end_unflushed(it) != TANK_NEVER) due = MIN(due, end_unflushed(it) - length);
-    if (!config.is_server) due = MAX(due, ticked + CLAMP(length / 2, 1, TICK));
-    if (due == TANK_NEVER) event_del(ticks);
-    else timer_set(ticks, due > now ? due - now : 0);
+    return config.is_server ? due : MAX(due, ticked + CLAMP(length / 2, 1, TICK));
+}
+
+/* After each step the node is asked for its next tick, once for all steps of a millisecond. */
+static void ask_for_tick(void) {
+    if (!is_asked_soon) timer_set(ticks, 1);
+    is_asked_soon = true;
 }
 
 /* If the client fences itself, the frame is lost with what it had. */
@@ -249,7 +254,7 @@ void node_take(const uint8_t *frame, size_t size) {
     trace("\n");
     trace_flush();
     if (config.is_traced && gate != old_gate) mark_keep(gate);
-    set_tick(now);
+    ask_for_tick();
     if (result != TANK_DONE) {
         note_untaken(result);
         return;
@@ -260,10 +265,14 @@ void node_take(const uint8_t *frame, size_t size) {
 }
 
 static void tick(UNUSED_OF_EVENT) {
+    uint64_t now = clock_at(clock_moment()), due = next_tick(now);
     uint8_t frame[64];
     size_t size;
+    is_asked_soon = false;
+    if (due > now && due != TANK_NEVER) timer_set(ticks, due - now);
+    if (due > now) return;
     must(tank_encode_tick(config.node, frame, sizeof frame, &size));
-    ticked = clock_at(clock_moment());
+    ticked = now;
     node_take(frame, size);
 }
 

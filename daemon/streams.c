@@ -82,7 +82,7 @@ static void happened(struct bufferevent *pipe, short what, void *stream) {
 }
 
 /* Gives what waits to the system at once, as far as it takes it; libevent gives it the rest. */
-static void give(struct stream *it) {
+void stream_flush(struct stream *it) {
     struct evbuffer *out = bufferevent_get_output(it->pipe);
     short enabled = bufferevent_get_enabled(it->pipe);
     bool is_full = evbuffer_get_length(out) > OUT_MOST || it->held > HELD_MOST;
@@ -100,7 +100,7 @@ void streams_flush(void) {
     for (GList *at = streams.head, *next; at; at = next) {
         struct stream *it = at->data;
         next = at->next;
-        if (it->pipe) give(it);
+        if (it->pipe) stream_flush(it);
         else if (!it->held) g_queue_remove(&streams, it), g_free(it);
     }
 }

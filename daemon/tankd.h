@@ -137,6 +137,7 @@ static inline struct evbuffer *stream_out(struct stream *it) {
 bool stream_is(const struct stream *, const char *node); /* the peer's certificate has this name */
 void stream_refuse(struct stream *, const char *why);
 void stream_drop(struct stream *);
+void stream_flush(struct stream *);
 void streams_flush(void);
 bool tls_load(void); /* reads the certificates, for the connections that are made from then on */
 
