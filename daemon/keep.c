@@ -140,16 +140,21 @@ void journal_write(uint64_t place, const void *bytes, size_t count) {
  * the process, but not the machine. */
 void mark_keep(uint64_t gate) { write_all(mark, &gate, sizeof gate, 0); }
 
-bool keep_has(uint64_t moment) {
+bool keep_has(uint64_t moment, uint64_t gate) {
+    uint64_t marked = 0;
     if (!config.is_server) return lives.moment == moment;
+    if (pread(mark, &marked, sizeof marked, 0) < 0) fail("no mark: %s", strerror(errno));
+    return gate != marked;
+}
+
+uint64_t journal_gate(void) {
     g_autofree uint8_t *bytes = journal_read();
-    uint64_t gate = 0, marked = 0;
+    uint64_t gate = 0;
     for (uint32_t length; gate + 5 <= journal_room && bytes[gate] == 1;) {
         memcpy(&length, bytes + gate + 1, sizeof length);
         gate += 5 + be32toh(length);
     }
-    if (pread(mark, &marked, sizeof marked, 0) < 0) fail("no mark: %s", strerror(errno));
-    return gate != marked;
+    return gate;
 }
 
 /* A second process would use the same lives or the same journal. The file stays open, and the lock

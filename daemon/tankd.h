@@ -93,9 +93,11 @@ uint8_t *journal_read(void);                                         /* the call
 void journal_write(uint64_t place, const void *bytes, size_t count); /* until the disk has them */
 extern uint64_t journal_room;
 
+uint64_t journal_gate(void); /* the last one, where the next record begins */
+
 /* With a trace: whether the change of the step of this moment, in which an earlier process was
  * killed, outlived it; and that the line of a step is whole, with the journal's last gate. */
-bool keep_has(uint64_t moment);
+bool keep_has(uint64_t moment, uint64_t gate);
 void mark_keep(uint64_t gate);
 
 /* trace.c: a trace of what the node took and gave, for tools/record (docs/RUNS.md, "Traces"). The

@@ -56,7 +56,8 @@ void trace_start(bool is_again, uint64_t moment, uint64_t reading) {
     trace_flush();
 }
 
-/* Ends the line of a step in which an earlier process was killed. */
+/* Ends the line of a step in which an earlier process was killed. Then all lines are whole, and the
+ * mark says so before this process begins one: it may be killed in its first one, too. */
 static void mend(const char *path) {
     off_t end = lseek(file, 0, SEEK_END);
     size_t size = (size_t)MIN(end, TAIL);
@@ -65,9 +66,11 @@ static void mend(const char *path) {
         fail("%s: %s", path, strerror(errno));
     const char *last = strrchr(tail, '\n'), *line = last ? last + 1 : tail,
                *moment = strchr(line, ' ');
-    bool is_made = moment && keep_has(strtoull(moment + 1, NULL, 10));
+    uint64_t gate = config.is_server ? journal_gate() : 0;
+    bool is_made = moment && keep_has(strtoull(moment + 1, NULL, 10), gate);
     if (*line) trace(is_made ? " ?\n" : " -\n");
     trace_flush();
+    if (config.is_server) mark_keep(gate);
 }
 
 void trace_begin(const char *path) {
