@@ -48,6 +48,7 @@ static _Atomic uint64_t under_way;    /* commands that were submitted and haven'
 static _Atomic int64_t slow, failing; /* for trials */
 static struct { _Atomic uint64_t life, end; } leases[SERVERS_MOST + 1];
 
+static GQueue spare = G_QUEUE_INIT;          /* memory of commands that were reported */
 static uint64_t submitted[SERVERS_MOST + 1]; /* writes that haven't ended */
 
 /* The threads. A block that was read is whole, or was never written. The sum tells a write of which
@@ -65,6 +66,7 @@ static bool transfer(const int *files, struct command *it) {
         return false; /* a server of another shape */
     if (it->writes) {
         block->sum = sum_of(block);
+        memset(block + 1, 0, SLOT - sizeof *block);
         return pwrite(files[it->disk], it->slot, SLOT, place) == SLOT;
     }
     ssize_t count = pread(files[it->disk], it->slot, SLOT, place);
@@ -144,7 +146,8 @@ static void report(struct command *it) {
 
 /* What is reported may make the client fence itself, which drops the rest. */
 static void hear_ends(UNUSED_OF_EVENT) {
-    for (struct command *it; (it = g_async_queue_try_pop(ended)); free(it)) report(it);
+    for (struct command *it; (it = g_async_queue_try_pop(ended)); g_queue_push_head(&spare, it))
+        report(it);
 }
 
 static int open_disk(uint16_t disk) {
@@ -170,10 +173,10 @@ void disks_begin(void) {
 }
 
 void disks_submit(const uint8_t *frame, size_t size) {
-    struct command *it = aligned_alloc(TANK_PAGE, sizeof *it);
+    struct command *it = g_queue_pop_head(&spare);
+    if (!it) it = aligned_alloc(TANK_PAGE, sizeof *it);
     if (!it) fail("out of memory");
     memset(it, 0, offsetof(struct command, block));
-    memset(&it->block + 1, 0, SLOT - sizeof it->block);
     must(tank_decode_command(frame, size, &it->command, it->block.bytes, TANK_PAGE));
     const struct tank_tag *tag = &it->command.tag;
     it->block.server = htobe16(tag->server);
@@ -201,9 +204,10 @@ bool disks_write(uint16_t server) { return submitted[server]; }
 void disks_drop(void) {
     struct command *it;
     for (uint64_t i = 0; i < config.workers; i++)
-        for (; (it = g_async_queue_try_pop(workers[i].waiting)); under_way--) free(it);
+        for (; (it = g_async_queue_try_pop(workers[i].waiting)); under_way--)
+            g_queue_push_head(&spare, it);
     while (under_way) g_usleep(100); /* this is rare */
-    for (; (it = g_async_queue_try_pop(ended)); free(it))
+    for (; (it = g_async_queue_try_pop(ended)); g_queue_push_head(&spare, it))
         if (it->effect) report(it);
     memset(submitted, 0, sizeof submitted);
 }

@@ -192,7 +192,7 @@ static uint32_t step(uint64_t moment, uint64_t now, const uint8_t *frame, size_t
     if (of_server.record) keep_record();
     if (!config.is_server) note_leases(now);
     if (of_client.new_lives) keep_lives(moment);
-    for (size_t taken = 1; taken;) {
+    for (size_t taken = TANK_FRAME_MOST; taken == TANK_FRAME_MOST;) {
         unsigned used = given->len;
         g_byte_array_set_size(given, used + TANK_FRAME_MOST);
         uint8_t *room = given->data + used;
