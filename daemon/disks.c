@@ -47,6 +47,7 @@ static int end_file;                  /* tells the loop that there are some */
 static _Atomic uint64_t under_way;    /* commands that were submitted and haven't ended */
 static _Atomic int64_t slow, failing; /* for trials */
 static struct { _Atomic uint64_t life, end; } leases[SERVERS_MOST + 1];
+static _Atomic uint64_t limit = TANK_NEVER; /* from this reading on, no command is carried out */
 
 static GQueue spare = G_QUEUE_INIT;          /* memory of commands that were reported */
 static uint64_t submitted[SERVERS_MOST + 1]; /* writes that haven't ended */
@@ -83,7 +84,7 @@ static void begin(const int *files, struct command *it) {
     if (slow) g_usleep((uint64_t)slow * 1000);
     uint64_t end = leases[it->server].end;
     it->until = leases[it->server].life == it->life ? end : 0;
-    bool lasts = clock_at(clock_moment()) + config.disk_time < it->until;
+    bool lasts = clock_at(clock_moment()) + config.disk_time < MIN(it->until, limit);
     if (!lasts) count(COUNT_DISK_OVER);
     if (!lasts || fails || !transfer(files, it)) return;
     it->end = it->writes ? TANK_END_WRITTEN : TANK_END_READ;
@@ -198,6 +199,8 @@ void disks_lease(uint16_t server, uint64_t life, uint64_t end) {
     leases[server].life = life;
     leases[server].end = end;
 }
+
+void disks_limit(uint64_t reading) { limit = reading; }
 
 bool disks_write(uint16_t server) { return submitted[server]; }
 

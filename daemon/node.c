@@ -8,7 +8,7 @@
  *   One clock for each node, which never falls: keep.c.
  *   The clocks' rates: keep.c. CLOCK_BOOTTIME counts while the machine sleeps.
  *   The reading is taken when the step is taken: node_take.
- *   Ticks, and a flush that was missed: tick, next_tick, is_flush_missed, node_take.
+ *   Ticks, and a flush that was missed: tick, next_tick, missed_from, node_take.
  *   Disk commands in time, and disks of blocks: disks.c.
  *   An ask's number is used once: asks.c, new_number.
  *   Frames arrive as they were sent, and `from` is that of the peer: links.c, node_hear.
@@ -65,6 +65,24 @@ static void keep_lives(uint64_t moment) {
     lives_keep();
 }
 
+/* The end of a lease with dirty pages that no step has found in flush, or TANK_NEVER. */
+static uint64_t end_unflushed(const struct lease *it) {
+    bool is_flushed = !it->at.dirty || it->flushed == it->at.lease_end;
+    return it->at.lease_end && !is_flushed ? it->at.lease_end : TANK_NEVER;
+}
+
+/* The first end of a lease with dirty pages that no step has found in flush, or of which a write is
+ * still under way. If the clock reads this much, the client wasn't woken in time. */
+static uint64_t missed_from(void) {
+    uint64_t first = TANK_NEVER;
+    for (uint16_t number = 1; number <= config.servers; number++) {
+        const struct lease *it = &leases[number];
+        bool is_out = it->at.dirty && it->at.lease_end && disks_write(number);
+        first = MIN(first, is_out ? it->at.lease_end : end_unflushed(it));
+    }
+    return first;
+}
+
 static void note_leases(uint64_t now) {
     for (uint16_t number = 1; number <= config.servers; number++) {
         struct tank_association *at = &leases[number].at;
@@ -73,6 +91,7 @@ static void note_leases(uint64_t now) {
         disks_lease(number, at->life, at->lease_end);
         lives.life[number] = at->life;
     }
+    disks_limit(missed_from());
 }
 
 static void open_server(uint64_t now, const uint8_t *journal) {
@@ -109,23 +128,6 @@ static void begin(void) {
     if (is_again) trace("\n");
     trace_flush();
     if (config.is_server && config.is_traced) mark_keep(gate);
-}
-
-/* The end of a lease with dirty pages that no step has found in flush, or TANK_NEVER. */
-static uint64_t end_unflushed(const struct lease *it) {
-    bool is_flushed = !it->at.dirty || it->flushed == it->at.lease_end;
-    return it->at.lease_end && !is_flushed ? it->at.lease_end : TANK_NEVER;
-}
-
-/* Whether a lease ended while pages were dirty and no step found it in flush, or while a write was
- * still under way: the client wasn't woken in time. */
-static bool is_flush_missed(uint64_t now) {
-    for (uint16_t number = 1; number <= config.servers; number++) {
-        const struct tank_association *at = &leases[number].at;
-        bool is_over = at->dirty && at->lease_end && now >= at->lease_end;
-        if (now >= end_unflushed(&leases[number]) || (is_over && disks_write(number))) return true;
-    }
-    return false;
 }
 
 /* Closes the client. What its disks have done is in the trace; they do no more of it. */
@@ -219,7 +221,7 @@ static void note_untaken(uint32_t result) {
 
 /* A node gets its next tick when it is due; if it can't be asked, soon. A client with dirty pages
  * also gets one when the flush phase begins: a step must find it there, even with nothing to do
- * (is_flush_missed). Between two ticks of a client is some time, of which one fits into each flush
+ * (missed_from). Between two ticks of a client is some time, of which one fits into each flush
  * phase: otherwise a disk that fails would be given the same write at once, again and again. */
 static uint64_t next_tick(uint64_t now) {
     const uint64_t length = config.settings.lease - config.settings.flush;
@@ -241,7 +243,7 @@ static void ask_for_tick(void) {
 /* If the client fences itself, the frame is lost with what it had. */
 void node_take(const uint8_t *frame, size_t size) {
     uint64_t moment = clock_moment(), now = clock_for_step(moment), old_gate = gate;
-    if (!config.is_server && is_flush_missed(now)) {
+    if (!config.is_server && now >= missed_from()) {
         fence();
         return;
     }

@@ -160,6 +160,10 @@ void disks_submit(const uint8_t *frame, size_t size);
 void disks_lease(uint16_t server, uint64_t life, uint64_t end);
 bool disks_write(uint16_t server); /* a write was submitted that hasn't ended */
 
+/* From this reading on, no command at all is carried out, and each fails: the client would fence
+ * itself, and count as crashed before. */
+void disks_limit(uint64_t reading);
+
 /* Drops the commands that wait, and returns when none is being done. node_command_ended is called
  * for those that took effect, and no more for others. */
 void disks_drop(void);
