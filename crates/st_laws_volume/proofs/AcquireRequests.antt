@@ -52,7 +52,7 @@ AllSent A out =
 abbrev pub AsksAt : (ServerId → ℕ → Type 0) → Association → Type 0
 AsksAt A a = SoHere (AskedBody A a.server) a
 
-same_server : (s r : ServerId) → server_node s ≡ server_node r → s ≡ r
+pub same_server : (s r : ServerId) → server_node s ≡ server_node r → s ≡ r
 same_server s r e = ap (λ n. record { 0 = n }) (omega (arith, e))
 
 module _ (A : ServerId → ℕ → Type 0) (asked : ℕ → Option Ask)

@@ -1,6 +1,6 @@
--- In every run a server that has no free block is full in the volume, since room was wanted for each page that it has mapped.
+-- In every run a server that has no free block for a page is full in the volume, since room was wanted for that page and for each page that it has mapped.
 use Rattle.st_lemmas.proofs.Words
-use Words.{◌≡◌, ℕ, List, [], ◌∷◌, ◌++◌, Option, Some, None, Ok, refl, ap, ◌∙◌, subst, length, le-leb, nat_le, ServerId}
+use Words.{◌≡◌, ℕ, List, [], ◌∷◌, ◌++◌, Option, Some, None, Ok, refl, ap, ◌∙◌, subst, length, lt-ltb, nat_lt, ServerId}
 use Words.Extents as extents
 use Words.History.{Traced, traced}
 use Words.Lists.{Has}
@@ -12,7 +12,7 @@ use Rattle.st_promises.specs.Safe.{EveryRunIsSafe}
 use Rattle.st_laws_pages.specs.Disks.Runs.{PagesAfter}
 use Rattle.st_laws_pages.specs.Disks.World.{PagesHold}
 use Rattle.st_laws_pages.proofs.Disks.Whole.{fresh_holds}
-use Rattle.st_laws_volume.specs.FullServers.{AreFull, FullServersHaveNoRoom}
+use Rattle.st_laws_volume.specs.FullServers.{AreFull, FullServersHaveNoRoom, LacksRoom}
 use Rattle.st_laws_volume.specs.Logs.{InEveryRun}
 use Rattle.st_laws_volume.specs.Options.{OnSome}
 use Rattle.st_laws_volume.specs.PageBlocks.{AllHaveRoom, AllLie, PagesLie, RoomIsWanted}
@@ -31,14 +31,18 @@ use Rattle.st_volume.specs.Volume.{Volume, numbered, places_at}
 full_so : (w : World) (v : Volume) (sizes : List ℕ) → v.sizes ≡ sizes →
     ((node : ServerNode) → Has node w.servers → Sized sizes node.state.id node.state.stable) →
     AllLie w → ((s : ServerId) (node : ServerNode) → node_of w s ≡ Some node → node.state.id ≡ s) → AllHaveRoom w v → AreFull w v
-full_so w v sizes same sized lie ids room s node at f =
-    ap (is_any (λ size. nat_le size (length (places_at s v.claims))))
-    (ap (λ xs. numbered xs s.0) same
-    ∙ subst (λ (r : ServerId). Sized sizes r node.state.stable) (ids s node at) (sized node (numbered_has w.servers s.0 node at)))
-    ∙ le-leb (length (extents.own_blocks node.state.stable.extents)) (length (places_at s v.claims))
-    (blocks_wanted s node.state.stable.extents
-    (subst (λ (r : ServerId). PagesLie r node.state.stable.extents) (ids s node at) (lie node (numbered_has w.servers s.0 node at))) v.claims
-    (room s node at) f)
+full_so w v sizes same sized lie ids room s z =
+    ap (is_any (λ size. nat_lt size (length (places_at s v.claims))))
+    (ap (λ xs. numbered xs s.0) same ∙ subst (λ (r : ServerId). Sized sizes r z.node.state.stable) id (sized z.node there))
+    ∙ lt-ltb (length (extents.own_blocks z.node.state.stable.extents)) (length (places_at s v.claims))
+    (blocks_wanted s z.node.state.stable.extents (subst (λ (r : ServerId). PagesLie r z.node.state.stable.extents) id (lie z.node there)) v.claims
+    (room s z.node z.there) z.full z.file z.page z.own z.wanted z.unmapped)
+  where
+    there : Has z.node w.servers
+    there = numbered_has w.servers s.0 z.node z.there
+
+    id : z.node.state.id ≡ s
+    id = ids s z.node z.there
 
 -- In every run.
 FullToo : List Step → Step → Witness → Type 0

@@ -1,6 +1,6 @@
--- In every run each ask that is answered `nospace` has noticed that its server was full: full
--- servers have no room in the volume, an operation of the page for which the request was sent was
--- open from then on, and an ask that came meanwhile shares what it had noticed.
+-- In every run each ask that is answered `nospace` has noticed that its server was full: as it
+-- refused the request it had no room in the volume, an operation of the page for which the request
+-- was sent was open from then on, and an ask that came meanwhile shares what it had noticed.
 use Rattle.st_lemmas.proofs.Words
 use Words.{◌≡◌, ◌⊎◌, ℕ, ◌+◌, ◌≤◌, ◌<◌, arith, Bool, true, false, not, ◌&&◌, ◌==◌, List, [], ◌∷◌, ◌++◌, map, Option, Some, None, Ok, refl, sym, ap, ◌∙◌, subst, inl, inr}
 use Words.{eq-eqb, eqb-true, filter, find, leb-true, length, nat_le, AppAnswer, Ask, Body, ClientId, Event, FileId, GrantNo, Operation, PageNo, Request, ServerId}
@@ -13,7 +13,7 @@ use Words.why
 use Words.ClientState as cs
 use Words.ClientState.{Association, ClientSession}
 use Words.Events.{WorldTurn, world_step}
-use Words.Extents.{free}
+use Words.Extents.{free, is_mapped}
 use Words.History.{Traced, traced, traced_after}
 use Words.Keys.{same_page, same_server}
 use Words.Lists.{Has}
@@ -39,6 +39,7 @@ use Rattle.st_laws_volume.specs.Asks.{AsksOf, HasAsksOf, ask_key, at_site, opera
 use Rattle.st_laws_volume.specs.FullServers.{AreFull, FullServersAreNoticed, FullServersHaveNoRoom, IsFullNoticed}
 use Rattle.st_laws_volume.specs.NoSpaceAnswers.{IsNoSpace, ServersWereFull}
 use Rattle.st_laws_volume.specs.Logs.{InEveryRun}
+use Rattle.st_laws_volume.specs.PageBlocks.{ServedHaveRoom, ServedPagesAreWanted}
 use Rattle.st_laws_volume.specs.Options.{OnSome}
 use Rattle.st_laws_volume.specs.Refusals.{asks_before}
 use Rattle.st_laws_volume.specs.Seen.{of_event}
@@ -56,7 +57,7 @@ use Rattle.st_laws_volume.proofs.AwaitedWorlds.{AwaitsOf, Idle, awaits_begin, aw
 use Rattle.st_laws_volume.proofs.Carried.{IsGiven, IsLed, given_in, led_more}
 use Rattle.st_laws_volume.proofs.ChangeLines.{on_both}
 use Rattle.st_laws_volume.proofs.EventAnswers.{Given, Stepping, event_answers}
-use Rattle.st_laws_volume.proofs.FullNotices.{OldFull, at_server, full_lasts, its_full, old_now, old_on}
+use Rattle.st_laws_volume.proofs.FullNotices.{Lacks, OldFull, at_server, full_lasts, its_full, old_now, old_on}
 use Rattle.st_laws_volume.proofs.FullRoom.{full_servers_have_no_room}
 use Rattle.st_laws_volume.proofs.MarksStay.{AllMarked, marked, run_marked, step_marked}
 use Rattle.st_laws_volume.proofs.NoSpaceAnswers as space
@@ -69,6 +70,7 @@ use Rattle.st_laws_volume.proofs.OutstandingReads.{AllClean, clean_begins, clean
 use Rattle.st_laws_volume.proofs.PageRequests.{AllOne, fresh_one, one_step}
 use Rattle.st_laws_volume.proofs.ReadPages.{throughout_both, throughout_more}
 use Rattle.st_laws_volume.proofs.RefusedRequests.{RefusedBy}
+use Rattle.st_laws_volume.proofs.RoomWanted.{served_pages_are_wanted}
 use Rattle.st_laws_volume.proofs.SessionEpochs.{EpochsRight}
 use Rattle.st_laws_volume.proofs.SharedMarks.{FullSpread, at_page, full_after, full_begins}
 use Rattle.st_laws_volume.proofs.StepAnswers as stepping
@@ -196,6 +198,7 @@ pub record Refusing (past : List Step) (w : World) (c : ClientId) (f : FileId) (
   pub of_epoch : by.epoch_ ≡ session.epoch.0
   pub of_number : by.number_ ≡ request.number
   pub full : free by.served.serves.old.state.stable.extents ≡ 0
+  pub unmapped : is_mapped by.served.serves.old.state.stable.extents (record { server = association.server; ino = f.ino }) p ≡ false
 
 -- Nothing more is asked of a file here.
 abbrev Anything : ServerId → ℕ → Type 0
@@ -242,11 +245,32 @@ module _ (past : List Step) (t : Traced) (v : Volume) (right : EpochsRight t.wor
       r.request.number) r.body
       ((awaits r.site r.at r.runs r.association r.among).waits r.session r.request r.has r.outstanding)
 
+  lacking : Lacks r.by.y s
+  lacking =
+      record {
+        block =
+            record {
+              client = c;
+              life_ = r.by.life_;
+              epoch_ = r.by.epoch_;
+              number_ = r.by.number_;
+              reply = r.reply;
+              served = r.by.served;
+              ino = f.ino;
+              g = r.g;
+              page = p;
+              count = r.n;
+              asks = r.by.asks ∙ r.body;
+            };
+        full = r.full;
+        unmapped = r.unmapped;
+      }
+
   -- one that came before the refusal
   early_full : (a : Pending) → Has a v.pending → is_of_client c a ≡ true → at_server s a.ask ≡ true → a.op ≤ asks_before r.by.y c → a.full ≡ true
   early_full a i own q l =
       own_mark (asks_before r.by.y a.client) (at_server s) its_full full_lasts v a i
-      (old.full s r.by.served.serves.old r.by.served.serves.was r.full a.client)
+      (old.full s lacking a.client)
       (subst (λ (d : ClientId). a.op ≤ asks_before r.by.y d) (sym (client_is a.client c own)) l) q
 
   all_full : (a : Pending) → Has a v.pending → is_of_client c a ≡ true → at_page f p a.ask ≡ true → a.full ≡ true
@@ -346,7 +370,7 @@ module _ (k : net.Config) (count : ℕ) (past : List Step) (t : Traced) (e : Eve
     other = record { all = h.all; found = h.found; asked = h.asked; undone = h.undone; trees = h.trees; lasting = tt; fits = h.fits }
 
     abbrev lacks : space.LacksBlock
-        (space.turn k count past t e sc happened facts n right it single v r u g a other undone left wanted f).state.stable.extents
+        (space.turn k count past t e sc happened facts n right it single v r u g a other undone left wanted f)
         (space.z k count past t e sc happened facts n right it single v r u g a other undone left wanted f).served.sent.message.body left wanted
     lacks = space.lacking k count past t e sc happened facts n right it single v r u g a other undone left wanted f
 
@@ -375,6 +399,7 @@ module _ (k : net.Config) (count : ℕ) (past : List Step) (t : Traced) (e : Eve
           of_epoch = (space.under k count past t e sc happened facts n right it single v r u g a other undone left wanted f).1.1.0;
           of_number = (space.under k count past t e sc happened facts n right it single v r u g a other undone left wanted f).1.1.1;
           full = space.was_full k count past t e sc happened facts n right it single v r u g a other undone left wanted f;
+          unmapped = space.was_unmapped k count past t e sc happened facts n right it single v r u g a other undone left wanted f;
         }
 
     there : (is_ask g.client g.op a ≡ true) × Has a u.pending
@@ -452,7 +477,7 @@ record LateHold (k : net.Config) (count : ℕ) (past : List Step) (t : Traced) (
   olds : (y : Step) → Has y past → OldFull y it.volume
 
 abbrev Given_ : ℕ → Promise
-Given_ count past x = Known count past x × FullServersHaveNoRoom past x
+Given_ count past x = Known count past x × (FullServersHaveNoRoom past x × ServedPagesAreWanted past x)
 
 -- of the volume, if there is one
 record AllToo (past : List Step) (t : Traced) (v : Volume) : Type 0 where
@@ -522,7 +547,9 @@ late_on k count past t e sc it f g h = (
     all_too (Some v) a b d = record { all = a; spread = b; olds = d }
 
     now : OldFull x it.volume
-    now = old_now x it.volume (subst (λ (w : Witness). OnSome (AreFull t.world) w.volume) q g.1) h.notices h.facts.asks.agree
+    now =
+        old_now x it.volume (subst (λ (w : Witness). OnSome (AreFull t.world) w.volume) q g.1.0)
+        (subst (λ (w : Witness). OnSome (ServedHaveRoom x) w.volume) q g.1.1) h.notices h.facts.asks.agree
 
     go : (y : Step) → Has y past ⊎ Has y (x ∷ []) → OldFull y (volume_after it x it.volume)
     go y (inl i) = old_on y it x it.volume (h.olds y i)
@@ -553,7 +580,7 @@ each_noticed past (it ∷ its) u h k = (
       (on_both (AtEachStep (IsNoSpace past) its) (AtEachStep IsFullAsk its) (volume.step u it) h.1 k.1),
 )
 
-late_asks : EveryRunIsSafe → InEveryRun FullServersHaveNoRoom → InEveryRun Noticed
+late_asks : EveryRunIsSafe → InEveryRun (λ past x. FullServersHaveNoRoom past x × ServedPagesAreWanted past x) → InEveryRun Noticed
 unfolding LateToo begun led_from
 late_asks safe room k clients servers disks blocks form es head events =
     let t : Traced = traced (fresh_world k clients servers disks blocks form) in
@@ -569,7 +596,7 @@ late_asks safe room k clients servers disks blocks form es head events =
       spread = λ c f p. full_begins c f p (map (size_of t.world) (all_servers t.world));
       olds = λ y i. absurd i;
     })
-    (throughout_both (Known count) FullServersHaveNoRoom [] (steps es t)
+    (throughout_both (Known count) (λ past x. FullServersHaveNoRoom past x × ServedPagesAreWanted past x) [] (steps es t)
     (known_in k clients servers disks blocks form es head events (safe k clients servers disks blocks form es head events))
     (room k clients servers disks blocks form es head events))
 
@@ -584,4 +611,8 @@ full_servers_are_noticed safe pages k clients servers disks blocks form es head 
     (on_both (λ v. AtEachStep (IsNoSpace past) (steps_of (led_to past x) v x) v) (λ v. AtEachStep IsFullAsk (steps_of (led_to past x) v x) v)
     (led_to past x).volume z.0 z.1)) [] (steps es t)
     (throughout_both ServersWereFull Noticed [] (steps es t) (servers_were_full safe k clients servers disks blocks form es head events)
-    (late_asks safe (full_servers_have_no_room safe pages) k clients servers disks blocks form es head events))
+    (late_asks safe
+    (λ k clients servers disks blocks form es head events.
+    throughout_both FullServersHaveNoRoom ServedPagesAreWanted [] (steps es (traced (fresh_world k clients servers disks blocks form)))
+    (full_servers_have_no_room safe pages k clients servers disks blocks form es head events)
+    (served_pages_are_wanted safe k clients servers disks blocks form es head events)) k clients servers disks blocks form es head events))

@@ -1,6 +1,6 @@
 -- In every run each answer `nospace` goes to a write or a patch without a result: a server refused to map one page, since it had no free block.
 use Rattle.st_lemmas.proofs.Words
-use Words.{◌≡◌, ℕ, ◌+◌, ◌≤◌, arith, Bool, true, false, not, ◌&&◌, ◌==◌, List, [], ◌∷◌, ◌++◌, Option, Some, None, Ok, Err, refl, sym, ap, ◌∙◌, subst, if◌then◌else◌, Result}
+use Words.{◌≡◌, ℕ, ◌+◌, arith, Bool, true, false, not, ◌&&◌, ◌==◌, List, [], ◌∷◌, ◌++◌, Option, Some, None, Ok, Err, refl, sym, ap, ◌∙◌, subst, if◌then◌else◌, Result}
 use Words.{eqb-true, leb-false, nat_le, AllocateRefusal, AppAnswer, Ask, Body, ClientId, Event, FileId, GrantNo, Header, PageNo, ServerId}
 use Words.answers
 use Words.asks
@@ -23,6 +23,7 @@ use Words.Truth.{clash, client_is}
 use Words.World.{World, fresh_world, numbered}
 use Rattle.st_protocol.specs.Assoc as net
 use Rattle.st_promises.specs.Safe.{EveryRunIsSafe}
+use Rattle.st_trace.proofs.Server.Input.{thefts_begun}
 use Rattle.st_laws_pages.proofs.Asks.World.{asks_of}
 use Rattle.st_laws_refine.specs.Server.Pair.{terms_of}
 use Rattle.st_laws_names.specs.Keys.{behind_thefts, now_at}
@@ -34,6 +35,7 @@ use Rattle.st_laws_volume.specs.Options.{OnSome}
 use Rattle.st_laws_volume.specs.Seen.{of_event}
 use Rattle.st_laws_volume.specs.StepKinds.{AtEachStep}
 use Rattle.st_laws_volume.specs.Witness.{Witness, led_by, steps_of}
+use Rattle.st_laws_volume.proofs.AcquireRequests as acquiring
 use Rattle.st_laws_volume.proofs.AnswerCauses.{IsOfPage, IsRefusal, Says}
 use Rattle.st_laws_volume.proofs.AnswerFacts.{AllOf, FactsOf, Known, all_of, facts_begin, facts_on, known_in}
 use Rattle.st_laws_volume.proofs.AnswerLines.{step_of}
@@ -55,48 +57,54 @@ use Rattle.st_volume.specs.declared.step.VolumeStep.TheVariants as kinds
 use Rattle.st_volume.specs.Pages.{place_of}
 use Rattle.st_volume.specs.Volume.{Pending, Volume, is_ask, run}
 
--- A server that can't map one page: it has no free block.
-pub record Lacks (x : Extents) (left wanted : ℕ) : Type 0 where
+-- A server that can't map one page: it has no free block, and the page has none.
+pub record Lacks (x : Extents) (f : FileId) (p : PageNo) (left wanted : ℕ) : Type 0 where
   pub none : left ≡ 0
   pub one : wanted ≡ 1
   pub full : extents.free x ≡ 0
+  pub unmapped : extents.is_mapped x f p ≡ false
 
-one_lacks : (x : Extents) (f : FileId) (p : PageNo) (left wanted : ℕ) → extents.allocate x f p 1 ≡ Err (wants.NoSpace left wanted) → Lacks x left wanted
+one_lacks : (x : Extents) (f : FileId) (p : PageNo) (left wanted : ℕ) → extents.allocate x f p 1 ≡ Err (wants.NoSpace left wanted) → Lacks x f p left wanted
 unfolding extents.allocate extents.allocate_pages extents.numbers
-one_lacks x f p left wanted = go (not (extents.is_mapped x f p))
+one_lacks x f p left wanted = go (extents.is_mapped x f p) refl
   where
-    by : (n : ℕ) (b : Bool) → nat_le n (extents.free x) ≡ b → n ≤ 1 → (y : Extents) →
-        (if b then Ok y else Err (wants.NoSpace (extents.free x) n)) ≡ Err (wants.NoSpace left wanted) → Lacks x left wanted
-    by n true e l y q = cc q
-    by n false e l y q =
-        let z = leb-false n (extents.free x) e in
+    by : extents.is_mapped x f p ≡ false → (b : Bool) → nat_le 1 (extents.free x) ≡ b → (y : Extents) →
+        (if b then Ok y else Err (wants.NoSpace (extents.free x) 1)) ≡ Err (wants.NoSpace left wanted) → Lacks x f p left wanted
+    by u true e y q = cc q
+    by u false e y q =
+        let z = leb-false 1 (extents.free x) e in
         let a = free_is q in
-        let b = wanted_is q in
-        record { none = omega (arith, z, l, a); one = omega (arith, z, l, b); full = omega (arith, z, l) }
+        record { none = omega (arith, z, a); one = sym (wanted_is q); full = omega (arith, z); unmapped = u }
       where
-        free_is : ◌≡◌ {A = Result Extents AllocateRefusal} (Err (wants.NoSpace (extents.free x) n)) (Err (wants.NoSpace left wanted)) → extents.free x ≡ left
+        free_is : ◌≡◌ {A = Result Extents AllocateRefusal} (Err (wants.NoSpace (extents.free x) 1)) (Err (wants.NoSpace left wanted)) → extents.free x ≡ left
         free_is q = cc
 
-        wanted_is : ◌≡◌ {A = Result Extents AllocateRefusal} (Err (wants.NoSpace (extents.free x) n)) (Err (wants.NoSpace left wanted)) → n ≡ wanted
+        wanted_is : ◌≡◌ {A = Result Extents AllocateRefusal} (Err (wants.NoSpace (extents.free x) 1)) (Err (wants.NoSpace left wanted)) → 1 ≡ wanted
         wanted_is q = cc
 
-    go : (b : Bool) → extents.allocate_pages x f (if b then p ∷ [] else []) ≡ Err (wants.NoSpace left wanted) → Lacks x left wanted
-    go true q = by 1 (nat_le 1 (extents.free x)) refl (omega arith) (extents.place_pages f (p ∷ []) x) q
-    go false q = by 0 (nat_le 0 (extents.free x)) refl (omega arith) (extents.place_pages f [] x) q
+    go : (b : Bool) → extents.is_mapped x f p ≡ b → extents.allocate_pages x f (if not b then p ∷ [] else []) ≡ Err (wants.NoSpace left wanted) →
+        Lacks x f p left wanted
+    go false u q = by u (nat_le 1 (extents.free x)) refl (extents.place_pages f (p ∷ []) x) q
+    go true u q = none (nat_le 0 (extents.free x)) refl q
+      where
+        none : (b : Bool) → nat_le 0 (extents.free x) ≡ b →
+            (if b then Ok (extents.place_pages f [] x) else Err (wants.NoSpace (extents.free x) 0)) ≡ Err (wants.NoSpace left wanted) → Lacks x f p left wanted
+        none true e q = cc q
+        none false e q = let z = leb-false 0 (extents.free x) e in absurd (omega (arith, z))
 
 -- Such a refusal of a request for one page.
-pub record LacksBlock (x : Extents) (b : Body) (left wanted : ℕ) : Type 0 where
+pub record LacksBlock (t : ServerTurn) (b : Body) (left wanted : ℕ) : Type 0 where
   pub ino : ℕ
   pub g : GrantNo
   pub page : PageNo
   pub asks : b ≡ bodies.Allocate ino g page 1
-  pub lacks : Lacks x left wanted
+  pub lacks : Lacks t.state.stable.extents (sv.file t ino) page left wanted
 
 module _ (t : ServerTurn) (h : Header) (b : Body) (one : IsOfOne b) (left wanted : ℕ) where
   abbrev Says_so : Option Body → Type 0
   Says_so r = r ≡ Some (bodies.Nack why.NoSpace left wanted)
 
-  lacks_block : (r : Option Body) → Answers t h b r → Says_so r → LacksBlock t.state.stable.extents b left wanted
+  lacks_block : (r : Option Body) → Answers t h b r → Says_so r → LacksBlock t b left wanted
   lacks_block _ replied.IsSilent q = cc q
   lacks_block _ (replied.IsDone r f) q = absurd (clash (ap is_refusal (some_is q)) f)
   lacks_block _ (replied.IsNoFile i e f) q = cc q
@@ -191,7 +199,7 @@ module _ (k : net.Config) (count : ℕ) (past : List Step) (t : Traced) (e : Eve
     abbrev pub turn : ServerTurn
     turn = behind_thefts z.y.before.world s z.served.serves.old.state
 
-    pub lacking : LacksBlock turn.state.stable.extents z.served.sent.message.body left wanted
+    pub lacking : LacksBlock turn z.served.sent.message.body left wanted
     lacking =
         lacks_block turn z.served.sent.message.header z.served.sent.message.body single_body left wanted
         (sv.rule turn (now_at z.y.before.world s) z.served.sent.message.header z.served.sent.message.body).reply
@@ -224,6 +232,18 @@ module _ (k : net.Config) (count : ℕ) (past : List Step) (t : Traced) (e : Eve
     pub was_full : extents.free z.served.serves.old.state.stable.extents ≡ 0
     was_full =
         ap (λ (y : Stable). extents.free y.extents) (sym (thefts_stable z.served.serves.old.state (now_at z.y.before.world s))) ∙ lacking.lacks.full
+
+    -- the page isn't mapped
+    its_server : z.served.serves.old.state.id ≡ s
+    its_server = acquiring.same_server z.served.serves.old.state.id s (sym z.served.serves.served.to ∙ z.served.serves.keyed.between.1)
+
+    pub was_unmapped : extents.is_mapped z.served.serves.old.state.stable.extents (record { server = s; ino = lacking.ino }) lacking.page ≡ false
+    was_unmapped =
+        let b = thefts_begun z.served.serves.old.state (now_at z.y.before.world s) in
+        ap (λ (y : Stable). extents.is_mapped y.extents (record { server = s; ino = lacking.ino }) lacking.page) (sym b.stable)
+        ∙ (ap (λ (r : ServerId). extents.is_mapped turn.state.stable.extents (record { server = r; ino = lacking.ino }) lacking.page)
+        (sym (b.id ∙ its_server))
+        ∙ lacking.lacks.unmapped)
 
     refused : IsRefusedBlock past a left wanted
     refused =

@@ -19,6 +19,14 @@ none_of x f p u y i = go (find (is_extent_of f p) x.rows) refl u
     go None q e = none_has (is_extent_of f p) x.rows q y i
     go (Some z) q e = cc e
 
+-- no row is of it
+pub no_row : (x : Extents) (f : FileId) (p : PageNo) → extents.is_mapped x f p ≡ false → (y : Extent) → Has y x.rows → y.file ≡ f → y.page ≡ p → ⊥
+no_row x f p u y i a c =
+    clash
+    (and_both (same_file y.file f) (same_page y.page p) (subst (λ (g : FileId). same_file g f ≡ true) (sym a) (file_self f))
+    (eq-eqb y.page.0 p.0 (ap (λ (z : PageNo). z.0) c)))
+    (none_of x f p u y i)
+
 -- gets one.
 place_once : (x : Extents) (f : FileId) (p : PageNo) (bs : List BlockAt) → IsOnce x.rows → extents.is_mapped x f p ≡ false →
     IsOnce (extents.place_on x f p bs).rows
@@ -29,17 +37,10 @@ place_once x f p (b ∷ bs) h u = λ d e i j q r. go d e q r (has_append x.rows 
     new : Extent
     new = extents.new_extent x f p b
 
-    apart : (y : Extent) → Has y x.rows → y.file ≡ f → y.page ≡ p → ⊥
-    apart y k a c =
-        clash
-        (and_both (same_file y.file f) (same_page y.page p) (subst (λ (g : FileId). same_file g f ≡ true) (sym a) (file_self f))
-        (eq-eqb y.page.0 p.0 (ap (λ (z : PageNo). z.0) c)))
-        (none_of x f p u y k)
-
     go : (d e : Extent) → d.file ≡ e.file → d.page ≡ e.page → Has d x.rows ⊎ Has d (new ∷ []) → Has e x.rows ⊎ Has e (new ∷ []) → d.at ≡ e.at
     go d e q r (inl a) (inl c) = h d e a c q r
-    go d e q r (inl a) (inr (inl c)) = absurd (apart d a (q ∙ ap (λ (y : Extent). y.file) c) (r ∙ ap (λ (y : Extent). y.page) c))
-    go d e q r (inr (inl a)) (inl c) = absurd (apart e c (sym q ∙ ap (λ (y : Extent). y.file) a) (sym r ∙ ap (λ (y : Extent). y.page) a))
+    go d e q r (inl a) (inr (inl c)) = absurd (no_row x f p u d a (q ∙ ap (λ (y : Extent). y.file) c) (r ∙ ap (λ (y : Extent). y.page) c))
+    go d e q r (inr (inl a)) (inl c) = absurd (no_row x f p u e c (sym q ∙ ap (λ (y : Extent). y.file) a) (sym r ∙ ap (λ (y : Extent). y.page) a))
     go d e q r (inr (inl a)) (inr (inl c)) = ap (λ (y : Extent). y.at) a ∙ sym (ap (λ (y : Extent). y.at) c)
     go d e q r (inr (inr a)) c = absurd a
     go d e q r a (inr (inr c)) = absurd c

@@ -1,6 +1,6 @@
--- A server has mapped as many pages as it has blocks, if none is free; so there are no fewer pages for which room was wanted.
+-- A server has mapped as many pages as it has blocks, if none is free; so room was wanted for more pages, if it was for one that isn't mapped.
 use Rattle.st_lemmas.proofs.Words
-use Words.{◌≡◌, ◌⊎◌, ℕ, zero, suc, ◌+◌, ◌≤◌, arith, Bool, true, false, not, ◌&&◌, ◌==◌, List, [], ◌∷◌, ◌++◌, length, map, filter, refl, sym, ap, ◌∙◌, subst, inl, inr}
+use Words.{◌≡◌, ◌⊎◌, ℕ, zero, suc, ◌+◌, ◌<◌, ◌≤◌, arith, Bool, true, false, not, ◌&&◌, ◌==◌, List, [], ◌∷◌, ◌++◌, length, map, filter, refl, sym, ap, ◌∙◌, subst, inl, inr}
 use Words.{eq-eqb, eqb-true, list_all, list_any, if◌then◌else◌, BlockAt, FileId, PageNo, Extent, ServerId}
 use Words.Extents as extents
 use Words.Extents.{Extents}
@@ -11,6 +11,7 @@ use Words.Tables.{and_true, each_passes, has_append, has_filter, has_filter_in, 
 use Rattle.std.specs.Prelude.{flat_map}
 use Rattle.st_laws_volume.specs.PageBlocks.{PagesLie}
 use Rattle.st_laws_volume.specs.Witness.{is_claimed}
+use Rattle.st_laws_volume.proofs.PageBlocks.{no_row}
 use Rattle.st_volume.specs.Pages as pages
 use Rattle.st_volume.specs.Pages.{same_place}
 use Rattle.st_volume.specs.Volume.{places_at}
@@ -215,6 +216,32 @@ module _ (s : ServerId) (x : Extents) (lie : PagesLie s x) (claims : List (FileI
   alone a c y h k =
       sym h.at ∙ (lie.once h.row k.row h.among k.among (sym h.file ∙ k.file) (sym h.page ∙ k.page) ∙ k.at)
 
-  -- no fewer pages are wanted than there are blocks
-  pub blocks_wanted : length (extents.own_blocks x) ≤ length (places_at s claims)
-  blocks_wanted = pigeons (LiesOn x) (extents.own_blocks x) (places_at s claims) (own_distinct x) wanted alone
+  -- one page more is wanted, which isn't mapped
+  module _ (f : FileId) (p : PageNo) (own : f.server ≡ s) (claim : Has (f, p) claims) (unmapped : extents.is_mapped x f p ≡ false) where
+    here : Has (f, p) (places_at s claims)
+    here = has_filter_in (λ y. y.0.server.0 == s.0) claims (f, p) claim (eq-eqb f.server.0 s.0 (ap (λ (r : ServerId). r.0) own))
+
+    abbrev rest : List (FileId × PageNo)
+    rest = without (places_at s claims) (f, p) here
+
+    other : (b : BlockAt) (c : FileId × PageNo) → LiesOn x b c → c ≡ (f, p) → ⊥
+    other b c h q =
+        no_row x f p unmapped h.row h.among (sym h.file ∙ ap (λ (y : FileId × PageNo). y.0) q) (sym h.page ∙ ap (λ (y : FileId × PageNo). y.1) q)
+
+    wanted_else : (b : BlockAt) → Has b (extents.own_blocks x) → Met (LiesOn x b) rest
+    wanted_else b i = go (wanted b i)
+      where
+        go : Met (LiesOn x b) (places_at s claims) → Met (LiesOn x b) rest
+        go z = by (others (places_at s claims) (f, p) here z.met z.among)
+          where
+            by : (z.met ≡ (f, p)) ⊎ Has z.met rest → Met (LiesOn x b) rest
+            by (inl q) = absurd (other b z.met z.so q)
+            by (inr j) = record { met = z.met; among = j; so = z.so }
+
+    -- more pages are wanted than there are blocks
+    pub blocks_wanted : length (extents.own_blocks x) < length (places_at s claims)
+    blocks_wanted =
+        count (pigeons (LiesOn x) (extents.own_blocks x) rest (own_distinct x) wanted_else alone) (one_less (places_at s claims) (f, p) here)
+      where
+        count : {n m k : ℕ} → n ≤ m → k ≡ suc m → n < k
+        count l q = omega (arith, l, q)

@@ -1,7 +1,8 @@
--- In every run room is wanted in the volume for each page that a server has mapped.
+-- In every run room is wanted in the volume for each page that a server has mapped, and for the page of each request for a block that a server serves.
 use Rattle.st_lemmas.proofs.Words
-use Words.{◌≡◌, ℕ, ◌+◌, Bool, true, false, ◌==◌, List, [], ◌∷◌, ◌++◌, length, Option, Some, None, refl, subst, if◌then◌else◌}
-use Words.{eq-eqb, option_and_then, Extent}
+use Words.{◌≡◌, ℕ, ◌+◌, Bool, true, false, ◌==◌, ◌≤◌, arith, List, [], ◌∷◌, ◌++◌, length, Option, Some, None, refl, subst, inl, inr, if◌then◌else◌}
+use Words.{eq-eqb, option_and_then, ClientId, Extent, Message, ServerId}
+use Words.bodies
 use Words.Extents as extents
 use Words.History.{Traced, traced, traced_after}
 use Words.Lists.{Has}
@@ -9,7 +10,7 @@ use Words.Numbers.{numbered_has}
 use Words.Safety.{IsHead, Promise, Step, TheReportTellsTheLog, step, steps}
 use Words.Server as sv
 use Words.Server.{ServerNode}
-use Words.Tables.{all_pass, and_both, has_map, some_passes}
+use Words.Tables.{all_pass, and_both, has_map, has_map_in, some_passes}
 use Words.World as world
 use Words.World.{World, fresh_world}
 use Rattle.st_lemmas.proofs.Steps.{step_happens}
@@ -24,20 +25,22 @@ use Rattle.st_laws_pages.proofs.Disks.Whole.{fates_law, fresh_waits}
 use Rattle.st_laws_pages.proofs.LockedCuts.CutLaw.{steps_lock_cuts}
 use Rattle.st_laws_refine.specs.Server.Pair.{terms_of}
 use Rattle.st_laws_leases.proofs.Sides.Waiting.{waits_owed}
+use Rattle.st_laws_leases.specs.Dates.Dates.{message_in}
 use Rattle.st_laws_cuts.proofs.Law.{AllHold, begins, holds_on}
+use Rattle.st_laws_names.proofs.Behind.{not_past}
 use Rattle.st_laws_names.proofs.World as once
 use Rattle.st_laws_volume.specs.Asks.{HasAsksOf}
 use Rattle.st_laws_volume.specs.Logs.{InEveryRun, IsLogOf}
 use Rattle.st_laws_volume.specs.Options.{OnSome}
-use Rattle.st_laws_volume.specs.PageBlocks.{AllHaveRoom, RoomIsWanted}
-use Rattle.st_laws_volume.specs.Witness.{Witness, begun, if_told, is_claimed, led_by, steps_of, volume_after}
-use Rattle.st_laws_volume.proofs.BlocksWanted.{AllWanted, blocks_on}
+use Rattle.st_laws_volume.specs.PageBlocks.{AllHaveRoom, RoomIsWanted, ServedHaveRoom, ServedPagesAreWanted, ServesBlock}
+use Rattle.st_laws_volume.specs.Witness.{Witness, begun, if_told, is_claimed, led_by, led_to, steps_of, volume_after}
+use Rattle.st_laws_volume.proofs.BlocksWanted.{AllWanted, PastOrWanted, WantedFor, blocks_on, file_at}
 use Rattle.st_laws_volume.proofs.Asks.{AsksHold, asks_begin, asks_kept}
 use Rattle.st_laws_volume.proofs.Carried.{IsGiven, given_in}
 use Rattle.st_laws_volume.proofs.Logs.{LogHolds, log_begins, log_kept}
 use Rattle.st_laws_volume.proofs.MappedRoom.{AllRoom, room_on}
 use Rattle.st_laws_volume.proofs.Options.{on_more}
-use Rattle.st_laws_volume.proofs.ReadPages.{InRange, all_in_range, throughout_both}
+use Rattle.st_laws_volume.proofs.ReadPages.{InRange, all_in_range, throughout_both, throughout_more}
 use Rattle.st_laws_volume.proofs.RoomClaims.{OpenWanted, Place}
 use Rattle.st_laws_volume.proofs.RoomCuts.{kept_or_cut, open_kept}
 use Rattle.st_volume.specs.Pages.{same_place}
@@ -63,6 +66,32 @@ have_room w v h s node at =
         (eq-eqb x.file.server.0 x.file.server.0 refl)
         (eq-eqb x.file.ino x.file.ino refl)) (eq-eqb x.page.0 x.page.0 refl)
 
+-- A request that is served isn't past.
+served_have_room : (x : Step) (v : Volume) → AllWanted x.before.world v → ServedHaveRoom x v
+served_have_room x v h s z =
+    by
+    (h z.client s m
+    (has_map_in message_in x.before.world.net.messages z.served.sent
+    (numbered_has x.before.world.net.messages z.served.index z.served.sent z.served.is))
+    z.served.serves.keyed.between z.served.serves.served.client pos)
+  where
+    m : Message
+    m = z.served.sent.message
+
+    pos : 1 ≤ m.header.number
+    pos = let q = z.served.serves.served.next in omega (arith, q)
+
+    of_body : WantedFor x.before.world v z.client s m (bodies.Allocate z.ino z.g z.page z.count) →
+        Has (file_at s z.ino, z.page) v.claims
+    of_body f = f.wanted
+
+    by : PastOrWanted x.before.world v z.client s m → Has (file_at s z.ino, z.page) v.claims
+    by (inl p) =
+        absurd
+        (not_past z.client z.served.serves.old m z.served.serves.served z.served.serves.running
+        z.served.serves.keyed.between.0 (p z.served.serves.old z.served.serves.was))
+    by (inr f) = of_body (subst (WantedFor x.before.world v z.client s m) z.asks f)
+
 -- In every run.
 record RoomHold (k : Config) (count : ℕ) (past : List Step) (t : Traced) (it : Witness) : Type 0
   where
@@ -77,12 +106,13 @@ Known count past x = InRange count past x ×
     (TheReportTellsTheLog past x × (FatesHold x.after.world × PlacesHold x.after.world))
 
 RoomToo : List Step → Step → Witness → Type 0
-RoomToo past x it = OnSome (AllHaveRoom x.before.world) it.volume
+RoomToo past x it = OnSome (λ v. AllHaveRoom x.before.world v × ServedHaveRoom x v) it.volume
 
 room_kept : (k : Config) (count : ℕ) → IsGiven (Known count) (RoomHold k count) RoomToo
 unfolding RoomToo led_by
 room_kept k count past t e sc it f g h = (
-  on_more (Roomy t.world) (AllHaveRoom t.world) (λ v z. have_room t.world v z.room) it.volume
+  on_more (Roomy t.world) (λ v. AllHaveRoom t.world v × ServedHaveRoom (step t e sc) v)
+      (λ v z. (have_room t.world v z.room, served_have_room (step t e sc) v z.fine)) it.volume
       h.roomy,
   record {
     all = all2;
@@ -173,9 +203,12 @@ room_begins k clients servers disks blocks form head =
           };
     }
 
-pub room_is_wanted : EveryRunIsSafe → InEveryRun RoomIsWanted
-unfolding RoomToo begun
-room_is_wanted safe k clients servers disks blocks form es head events =
+Both : Promise
+Both past x = OnSome (λ v. AllHaveRoom x.before.world v × ServedHaveRoom x v) (led_to past x).volume
+
+both_wanted : EveryRunIsSafe → InEveryRun Both
+unfolding RoomToo Both begun
+both_wanted safe k clients servers disks blocks form es head events =
     let t : Traced = traced (fresh_world k clients servers disks blocks form) in
     let count : ℕ = clients + servers in
     given_in (Known count) (RoomHold (terms_of k) count) RoomToo (room_kept (terms_of k) count) es t
@@ -191,3 +224,21 @@ room_is_wanted safe k clients servers disks blocks form es head events =
     (steps es t)
     (fates_law k clients servers disks blocks form es)
     (places_law k clients servers disks blocks form es head))))
+
+pub room_is_wanted : EveryRunIsSafe → InEveryRun RoomIsWanted
+unfolding Both
+room_is_wanted safe k clients servers disks blocks form es head events =
+    let t : Traced = traced (fresh_world k clients servers disks blocks form) in
+    throughout_more Both RoomIsWanted
+    (λ past x z. on_more (λ v. AllHaveRoom x.before.world v × ServedHaveRoom x v)
+    (AllHaveRoom x.before.world) (λ v y. y.0) (led_to past x).volume z) [] (steps es t)
+    (both_wanted safe k clients servers disks blocks form es head events)
+
+pub served_pages_are_wanted : EveryRunIsSafe → InEveryRun ServedPagesAreWanted
+unfolding Both
+served_pages_are_wanted safe k clients servers disks blocks form es head events =
+    let t : Traced = traced (fresh_world k clients servers disks blocks form) in
+    throughout_more Both ServedPagesAreWanted
+    (λ past x z. on_more (λ v. AllHaveRoom x.before.world v × ServedHaveRoom x v) (ServedHaveRoom x)
+    (λ v y. y.1) (led_to past x).volume z) [] (steps es t)
+    (both_wanted safe k clients servers disks blocks form es head events)

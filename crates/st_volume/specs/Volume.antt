@@ -162,9 +162,9 @@ with_places asks xs = distinct same_place (filter_map place_of asks ++ xs)
 abbrev pub places_at : ServerId → List (FileId × PageNo) → List (FileId × PageNo)
 places_at s xs = filter (λ x. x.0.server.0 == s.0) xs
 
--- Room: a page takes room of its server from the ask to write it on, until it is cut.
+-- Room: a page takes room of its server from the ask to write it on, until it is cut. A server is full if more pages want room than it has.
 abbrev pub is_full : Volume → ServerId → Bool
-is_full v s = is_any (λ size. nat_le size (length (places_at s v.claims))) (numbered v.sizes s.0)
+is_full v s = is_any (λ size. nat_lt size (length (places_at s v.claims))) (numbered v.sizes s.0)
 
 -- What open asks notice: that their file doesn't exist, that their server is full, and that another
 -- file has the name to be removed.
