@@ -127,7 +127,7 @@ class Volume:
 
     def notice_room(self):
         full = [server for server, size in enumerate(self.sizes, 1)
-                if sum(file[0] == server for file, _ in self.claims) >= size]
+                if sum(file[0] == server for file, _ in self.claims) > size]
         for it in self.open.values():
             it.full = it.full or it.server in full
 

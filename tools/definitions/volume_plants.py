@@ -207,6 +207,9 @@ ROOM = (
         ("Extents", "Bool, ◌&&◌, not", "Bool, ◌&&◌, ◌||◌, not")), "cuts"),
     Plant("a client that cuts keeps its clean pages", A, (("ClientPasses", "cut_store (Some cut) st = pages.forget_from st cut.0 cut.1", "cut_store (Some cut) st = st"),), "cuts"),
     Plant("two pages lie on one block", A, (("Extents", "is_free x b = not (list_any (lies_at b) x.rows)", "is_free x b = true"),)),
+    Plant("a server keeps one block back", A, (
+        ("Extents", "free x = length (free_blocks x)", "free x = pred (length (free_blocks x))"),
+        ("Extents", "ℕ, zero, suc, ◌+◌", "ℕ, zero, suc, pred, ◌+◌"))),
     Plant("two locks are too many", A, (("Locks", "waiters = []; limit = 1024 }", "waiters = []; limit = 2 }"),)),
     Plant("a server takes requests of ended lives", A, (("Server", "request_by t now h body takes.Stale = t", "request_by t now h body takes.Stale = serve h (rule t now h body)"),), "cuts"),
 )
