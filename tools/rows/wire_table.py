@@ -1,5 +1,5 @@
-"""The table of the wire tests: crates/st_codec_tests/src/wire_table.rt, written by
-tools/rows/write.
+"""The tables of the wire tests: wire_table.rt and third_table.rt of crates/st_codec_tests/src,
+written by tools/rows/write.
 
 Each line is the bytes of a message in runs, `HH` or `HH*COUNT`, as reference/ spells it; the second
 table has bytes that spell no message, and after ` = ` the refusal's name with its number. A word
@@ -13,7 +13,7 @@ import struct
 from row_records import (
     ANSWER_WORDS, Ack, Acquire, Allocate, Answer, App, AppDone, Block, Create, Cut, CutAsk, Demand, DemandSeen, Done, Extents, File, Granted, Hello,
     KeepAlive, ListDir, Lookup, MAX_PAGE, Map, Message, Mkdir, Nack, Name, NameAsk, NameRow, Named, PAGE_BYTES, PatchAsk, Queued, ReadAsk, ReadBlock,
-    Reassert, Reasserted, Released, Remove, RemoveEntry, Rename, Submit, SyncAsk, Tag, Tick, U32, U64, Welcome, WriteAsk, WriteBlock, encode, plain, wire,
+    Reassert, Reasserted, Released, Remove, RemoveEntry, Rename, Submit, SyncAsk, Tag, Tick, U16, U32, U64, Welcome, WriteAsk, WriteBlock, encode, plain, wire,
 )
 
 PAGE = bytes([0x5A]) * PAGE_BYTES
@@ -37,12 +37,12 @@ def runs(data):
     return " ".join(out)
 
 
-def verdict(data):
+def verdict(data, form=1):
     try:
-        message = wire.decode(data)
+        message = wire.decode(data, form)
     except wire.Refusal as refusal:
         return " ".join(map(str, [refusal.name, *refusal.values]))
-    assert wire.encode(message) == data
+    assert wire.encode(message, form) == data
     return "ok"
 
 
@@ -122,6 +122,28 @@ def messages():
     yield from messages_of_one_machine()
 
 
+def in_version_3(message):
+    """Its bytes in version 3: all but the version are those of version 1 or 2."""
+    data = wire.encode(plain(message), 3)
+    assert data == b"\x03" + encode(message)[1:]
+    return data
+
+
+def messages_of_version_3():
+    """The bytes of messages that only version 3 has."""
+    yield in_version_3(Message(64, 32_776, 2, 5, 7, 9, KeepAlive()))
+    yield in_version_3(Message(32_776, 64, 2, 5, 7, 9, Ack()))
+    for node in (64, 32_776):
+        yield in_version_3(local(Tick(), 0, node))
+    yield in_version_3(local(Submit(9, ReadBlock(Block(U16, U32))), 64, 0))
+    yield in_version_3(control(Extents(4, ((0, Block(16, 2**28 - 1), 1), (MAX_PAGE, Block(9, 4_096), U64))), to_client=True))
+    for server in (1, 65_535):
+        yield wire.encode(wire.Message(wire.APP, 0, 3, 0, 0, 0, 0, (11, ("leave", server))), 3)
+    yield wire.encode(wire.Message(wire.APPDONE, 3, 0, 0, 0, 0, 0, (11, ("left",))), 3)
+    for ino in (1, U32):
+        yield wire.encode(wire.Message(wire.APPDONE, 3, 0, 0, 0, 0, 0, (11, ("unsynced", ino))), 3)
+
+
 def full_lists():
     """The full lists that the tests build, in the tests' order."""
     yield control(Reassert(tuple((i + 1, 8, 2) for i in range(1_024))))
@@ -151,31 +173,65 @@ def faults():
     """A few changed messages, one for each refusal that is chosen."""
     hand = ("02", "03", "01 ff", "01*2 00 03 80 02 00*7 02 00*23 09 00", "01 03 up 00*3 01 03")
     yield from zip(hand, ("Short", "Version", "Kind", "Long", "Value 42"))
+    yield from found_faults([encode(m) for m in messages()], 1)
+
+
+def faults_of_version_3():
+    """The same of version 3. By hand: the other versions; nodes, a disk and a block after the last
+    ones; a reassertion of 4,097 rows; asks and answers of no number, and with one out of range.
+    """
+    yield from (("03", "Short"), ("01*2 up", "Version"), ("02 41 in 00*3 0b 06", "Version"), ("03 ff", "Kind"), ("03 02 up 00", "Long"))
+    for text in ("03 02 00 41 80 02 00*7 02 00*7 05 00*7 07 00*7 09", "03 02 00 03 80 09 00*7 02 00*7 05 00*7 07 00*7 09", "03 09 up 10 01",
+                 "03 26 down 00*3 04 00 01 00*4 00 11 00*12", "03 26 down 00*3 04 00 01 00*4 00 10 10 00*11", "03 41 in 00*3 0b 08", "03 41 in 00*3 0b 07 00*2",
+                 "03 42 out 00*3 0b 08", "03 42 out 00*3 0b 1b 00*4", "03 42 out 00*3 0b 1c"):
+        yield text, verdict(read_runs(text), 3)
+    pool = [in_version_3(m) for m in messages()] + list(messages_of_version_3())
+    yield from found_faults(pool, 3)
+
+
+def read_runs(text):
+    """The bytes of a line."""
+    words = {word: data for data, word in HEADERS.items()}
+    out = b""
+    for word in text.split():
+        byte, _, count = word.partition("*")
+        out += words[word] if word in words else bytes((int(byte, 16),)) * int(count or 1)
+    return out
+
+
+def found_faults(pool, form):
+    """Changed messages, one for each refusal that is chosen."""
     rng = random.Random(11)
-    pool = [encode(m) for m in messages()]
     small = [data for data in pool if len(data) < 120]
     found = {}
     for _ in range(4_000):
         data = changed(rng, rng.choice(small if rng.random() < 0.9 else pool))
-        if data and len(runs(data)) <= 90 and verdict(data) != "ok":
-            found.setdefault(verdict(data), runs(data))
+        if data and len(runs(data)) <= 90 and verdict(data, form) != "ok":
+            found.setdefault(verdict(data, form), runs(data))
     places = (2, 4, 6, 14, 22, 30, 38, 42, 43, 46, 49, 50)
     for want in sorted(found, key=lambda v: (v.split()[0], int((v + " 0").split()[1]))):
         if not want.startswith("Value") or int(want.split()[1]) in places:
             yield found[want], want
 
 
-def files():
-    """The file of the table, and its text."""
-    lines = [runs(encode(message)) for message in messages()]
-    refused = [f"{text} = {want}" for text, want in faults()]
+def table(constants):
+    """The text of a table."""
     joint = "\\n\\\n"
-    return {"crates/st_codec_tests/src/wire_table.rt": f'''//! Written by tools/rows/wire_table.py: bytes in runs, `HH` or `HH*COUNT`, a word for a header that many have, and
+    items = "".join(f'\n/// {says}\npub const {name}: &str = "{joint.join(lines)}";\n' for name, says, lines in constants)
+    return f"""//! Written by tools/rows/wire_table.py: bytes in runs, `HH` or `HH*COUNT`, a word for a header that many have, and
 //! the answers of an independent reading.
+{items}"""
 
-/// A message of every kind, name op, ask and answer.
-pub const MESSAGES: &str = "{joint.join(lines)}";
 
-/// Bytes that spell no message, and the refusal.
-pub const FAULTS: &str = "{joint.join(refused)}";
-'''}
+def files():
+    """The files of the tables, and their texts."""
+    refused = [f"{text} = {want}" for text, want in faults()]
+    refused_3 = [f"{text} = {want}" for text, want in faults_of_version_3()]
+    return {
+        "crates/st_codec_tests/src/wire_table.rt": table((
+            ("MESSAGES", "A message of every kind, name op, ask and answer.", [runs(encode(message)) for message in messages()]),
+            ("FAULTS", "Bytes that spell no message, and the refusal.", refused))),
+        "crates/st_codec_tests/src/third_table.rt": table((
+            ("MESSAGES", "Messages that only version 3 has.", [runs(data) for data in messages_of_version_3()]),
+            ("FAULTS", "Bytes that spell no message of version 3, and the refusal.", refused_3))),
+    }

@@ -4,4 +4,8 @@
 #[cfg(test)]
 mod tests;
 #[cfg(test)]
+mod third_table;
+#[cfg(test)]
+mod third_tests;
+#[cfg(test)]
 mod wire_table;

@@ -33,7 +33,7 @@ fn meaning(word: &str) -> &str {
 }
 
 /// The bytes of a line of the table.
-fn bytes_of(alloc: Global, line: &str) -> Result<Vec<u8>, AllocError> {
+pub(crate) fn bytes_of(alloc: Global, line: &str) -> Result<Vec<u8>, AllocError> {
     let mut bytes = Vec::new(alloc);
     for word in line.split(' ') {
         push_runs(&mut bytes, meaning(word))?;
@@ -42,7 +42,7 @@ fn bytes_of(alloc: Global, line: &str) -> Result<Vec<u8>, AllocError> {
 }
 
 /// The words of a refusal.
-fn words_of(alloc: Global, refusal: CodecRefusal) -> Result<String, AllocError> {
+pub(crate) fn words_of(alloc: Global, refusal: CodecRefusal) -> Result<String, AllocError> {
     match refusal {
         CodecRefusal::Short => format!(in alloc; "Short"),
         CodecRefusal::Long => format!(in alloc; "Long"),
@@ -91,7 +91,7 @@ fn each_fault_is_the_first(rt: HostRuntime) -> io::Result<()> {
 
 /// A message whose list has this many rows: the front, and a number that rises and these runs for
 /// each.
-fn full(
+pub(crate) fn full(
     alloc: Global,
     front: &str,
     first: u16,
@@ -111,7 +111,7 @@ fn longest(alloc: Global) -> Result<Vec<u8>, AllocError> {
     full(alloc, "01 27 down 01 01 00", 1, 256, "01 40 6e*64")
 }
 
-fn sum_of(bytes: &[u8]) -> u16 {
+pub(crate) fn sum_of(bytes: &[u8]) -> u16 {
     let mut sum = 0u16;
     for byte in bytes {
         sum = sum.wrapping_add(u16::from(*byte));
