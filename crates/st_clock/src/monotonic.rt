@@ -1,5 +1,5 @@
 // The clock of the machine.
-ghost use Rattle.std.specs.Prelude.{◌≡◌, ◌≤◌, ◌^◌, None, max, min};
+ghost use Rattle.std.specs.Prelude.{◌≡◌, ◌≤◌, ◌^◌, None};
 
 use crate::clock::Clock;
 use st_base::Stamp;
@@ -17,15 +17,6 @@ pub struct MonotonicClock<S: SystemClock + Drop> {
     system: S,
     greatest: u64,
     ghost most: { greatest ≤ 2 ^ 62 },
-}
-
-/// The reading after `greatest` when the machine's clock shows `millis`: it is not below
-/// `greatest`, and at most 2^62.
-fn later(greatest: u64, millis: u128) -> u64
-    requires { greatest ≤ 2 ^ 62 }
-    ensures { result ≡ max greatest (min millis (2 ^ 62)) }
-{
-    greatest.max(millis.min(LAST as u128) as u64)
 }
 
 impl<S: SystemClock + Drop> MonotonicClock<S> {
@@ -50,7 +41,8 @@ impl<S: SystemClock + Drop> Clock for MonotonicClock<S> {
     fn now(&mut self) -> Stamp {
         match self.system.monotonic() {
             Ok(time) => {
-                self.greatest = later(self.greatest, time.as_millis());
+                let millis = time.as_millis().min(LAST as u128) as u64;
+                self.greatest = self.greatest.max(millis);
                 Stamp(self.greatest)
             }
             Err(_) => Stamp(self.greatest),
