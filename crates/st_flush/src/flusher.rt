@@ -36,48 +36,32 @@ impl Model for Flusher {
     ghost invariant = { λ f. AreApart f.commands };
 }
 
-/// How a write of a version ended, if the page is at this version now.
-fn write_ended(version: u64, now: u64) -> Ended
-    ensures { result ≡ pages.write_ended version now }
-{
-    if version == now {
-        Ended::Hard
-    } else {
-        Ended::Redirty
-    }
-}
-
-fn done_as(kind: IoKind, version: u64) -> Ended
-    ensures { result ≡ pages.done_as kind version }
-{
-    match kind {
-        IoKind::Read => Ended::Filled,
-        IoKind::Write(written) => write_ended(written, version),
-    }
-}
-
-/// How a command ended.
+/// How a command ended, if the page is at this version now.
 fn ended_as(command: PageCommand, ok: bool, version: u64) -> Ended
     ensures { result ≡ pages.ended_as command ok version }
 {
-    if ok {
-        done_as(command.kind, version)
-    } else {
-        Ended::Failed
+    if !ok {
+        return Ended::Failed;
     }
-}
-
-fn same_page(a: (u32, PageNo, u64), b: (u32, PageNo, u64)) -> bool
-    ensures { result ≡ same_page_write a b }
-{
-    b.0 == a.0 && b.1.0 == a.1.0
+    match command.kind {
+        IoKind::Read => Ended::Filled,
+        IoKind::Write(written) => {
+            if written == version {
+                Ended::Hard
+            } else {
+                Ended::Redirty
+            }
+        }
+    }
 }
 
 /// Whether a later write is of the same page.
 fn comes_again(write: (u32, PageNo, u64), later: &[(u32, PageNo, u64)]) -> bool
     ensures { result ≡ list_any (same_page_write write) later.now }
 {
-    later.iter().any(|other| same_page(write, *other))
+    later
+        .iter()
+        .any(|other| other.0 == write.0 && other.1.0 == write.1.0)
 }
 
 /// Whether the pages of these writes differ.
@@ -235,21 +219,17 @@ impl Flusher {
         })
     }
 
-    /// Whether the page of a write has an outstanding command.
-    fn is_taken(&self, write: (u32, PageNo, u64)) -> bool
-        ensures { result ≡ is_taken_in self.now.commands write }
-    {
-        let page = OfPage {
-            ino: write.0,
-            page: write.1,
-        };
-        find_command(&self.commands, &page).is_some()
-    }
-
+    /// Whether the page of one of these writes has an outstanding command.
     fn any_taken(&self, writes: &[(u32, PageNo, u64)]) -> bool
         ensures { result ≡ list_any (is_taken_in self.now.commands) writes.now }
     {
-        writes.iter().any(|write| self.is_taken(*write))
+        writes.iter().any(|write| {
+            let page = OfPage {
+                ino: write.0,
+                page: write.1,
+            };
+            find_command(&self.commands, &page).is_some()
+        })
     }
 
     /// Whether writes of these files, pages and versions may begin, numbered from `first` on: their
