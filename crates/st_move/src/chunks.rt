@@ -82,15 +82,6 @@ impl Chunk {
         })
     }
 
-    /// A chunk of copies of these updates.
-    fn from_copies(alloc: Global, items: &[Update]) -> Result<Chunk, AllocError>
-        ensures { IfOk result (λ c. c ≡ items.now) }
-    {
-        Ok(Chunk {
-            items: Rc::new(alloc, copies(alloc, items)?)?,
-        })
-    }
-
     fn get(&self, i: usize) -> &Update
         requires { i < length self.now }
         ensures { slice_get self.now i ≡ Some result.now }
@@ -128,21 +119,14 @@ impl Chunks {
         }
     }
 
-    /// Copies of the chunks, in a list that nobody shares.
-    fn to_vec(&self, alloc: Global) -> Result<Vec<Chunk>, AllocError>
-        ensures { IfOk result (λ v. v.items ≡ kept.chunks_of self.now) }
-    {
-        match self {
-            Chunks::Empty => Ok(Vec::new(alloc)),
-            Chunks::Shared(chunks) => chunk_copies(alloc, chunks.as_slice()),
-        }
-    }
-
     /// The chunks with one more.
     fn with_chunk(&self, alloc: Global, chunk: Chunk) -> Result<Chunks, AllocError>
         ensures { IfOk result (λ cs. kept.chunks_of cs ≡ kept.chunks_of self.now ++ chunk ∷ []) }
     {
-        let mut chunks = self.to_vec(alloc)?;
+        let mut chunks = match self {
+            Chunks::Empty => Vec::new(alloc),
+            Chunks::Shared(chunks) => chunk_copies(alloc, chunks.as_slice())?,
+        };
         chunks.push(chunk)?;
         Ok(Chunks::Shared(Rc::new(alloc, chunks)?))
     }
@@ -213,7 +197,9 @@ impl UpdateList {
             return Ok(());
         }
         let alloc = self.alloc();
-        let chunk = Chunk::from_copies(alloc, self.last.as_slice())?;
+        let chunk = Chunk {
+            items: Rc::new(alloc, copies(alloc, self.last.as_slice())?)?,
+        };
         self.chunks = self.chunks.with_chunk(alloc, chunk)?;
         self.last = Vec::new(alloc);
         Ok(())

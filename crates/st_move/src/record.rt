@@ -139,29 +139,6 @@ impl ContainerRecord {
         self.state = ContainerState::Leaving(to);
         Ok(())
     }
-
-    /// The container is sent in the next version.
-    #[tactic(auto, unfolding(crate::specs::Containers::sent_on))]
-    fn send_on(&mut self)
-        requires { self.old.version + 1 < 2 ^ 64 }
-        ensures { self.new ≡ containers.sent_on self.old self.old.state }
-    {
-        if let ContainerState::Leaving(to) = self.state {
-            self.version += 1;
-            self.state = ContainerState::Sent(to);
-        }
-    }
-
-    /// The answer to what was sent came.
-    #[tactic(auto, unfolding(crate::specs::Containers::gone_by))]
-    fn end(&mut self, alloc: Global)
-        ensures { self.new ≡ containers.gone_by self.old self.old.state }
-    {
-        if let ContainerState::Sent(to) = self.state {
-            self.state = ContainerState::Gone(to);
-            self.updates = Updates::new(alloc);
-        }
-    }
 }
 
 /// One more update of a record.
@@ -191,16 +168,6 @@ pub(crate) fn order_in(
     }
 }
 
-/// Whether the version is above the record's, or there is no record.
-fn is_below(version: u64, entry: &Option<ContainerRecord>) -> bool
-    ensures { result ≡ containers.is_below version entry.now }
-{
-    match entry {
-        None => true,
-        Some(record) => record.version < version,
-    }
-}
-
 /// An image came.
 #[tactic(auto, unfolding(crate::specs::Containers::with_image))]
 pub(crate) fn take_image(
@@ -211,7 +178,11 @@ pub(crate) fn take_image(
     ensures ok { OnOk result (entry.new ≡ containers.with_image version updates.now entry.old) }
     ensures err { OnErr result (entry.new ≡ entry.old) }
 {
-    if is_below(version, entry) {
+    let above = match entry {
+        None => true,
+        Some(record) => record.version < version,
+    };
+    if above {
         let updates = updates.copy()?;
         *entry = Some(ContainerRecord {
             version,
@@ -223,26 +194,33 @@ pub(crate) fn take_image(
 }
 
 /// An answer came.
-#[tactic(auto, unfolding(crate::specs::Containers::answered))]
+#[tactic(auto, unfolding(crate::specs::Containers::answered, crate::specs::Containers::gone_by))]
 pub(crate) fn take_answer(entry: &mut Option<ContainerRecord>, alloc: Global, version: u64)
     ensures { entry.new ≡ containers.answered version entry.old }
 {
     if let Some(record) = entry {
         if record.version == version {
-            record.end(alloc);
+            if let ContainerState::Sent(to) = record.state {
+                record.state = ContainerState::Gone(to);
+                record.updates = Updates::new(alloc);
+            }
         }
     }
 }
 
 /// The record is sent on, or stays as it is.
-#[tactic(auto, unfolding(crate::specs::Containers::sent_if))]
+#[tactic(auto, unfolding(crate::specs::Containers::sent_if, crate::specs::Containers::sent_on))]
 pub(crate) fn send_if(entry: &mut Option<ContainerRecord>, yes: bool)
     requires { containers.has_next entry.old ≡ true }
     ensures { entry.new ≡ containers.sent_if yes entry.old }
 {
-    if yes {
-        if let Some(record) = entry {
-            record.send_on();
+    if !yes {
+        return;
+    }
+    if let Some(record) = entry {
+        if let ContainerState::Leaving(to) = record.state {
+            record.version += 1;
+            record.state = ContainerState::Sent(to);
         }
     }
 }
