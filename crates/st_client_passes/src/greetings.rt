@@ -25,20 +25,13 @@ fn is_greeting_due(t: &Turn, now: Stamp, tick: bool) -> bool
     }
 }
 
-/// Whether an operation waits for the server, and a greeting is due.
-fn must_greet(t: &Turn, now: Stamp, tick: bool) -> bool
-    ensures { result ≡ passes.must_greet t.now now tick }
-{
-    let here = OfServer { server: t.server() };
-    t.operations().any(&here) && is_greeting_due(t, now, tick)
-}
-
 /// Greeting, if an operation of this server is pending.
 #[tactic(auto, unfolding(st_rules::specs::ClientPasses::greet, st_rules::specs::ClientPasses::hello))]
 pub fn greet(t: &mut Turn, now: Stamp, tick: bool) -> Result<(), AllocError>
     ensures { OnOk result (t.new ≡ passes.greet t.old now tick) }
 {
-    if must_greet(t, now, tick) {
+    let here = OfServer { server: t.server() };
+    if t.operations().any(&here) && is_greeting_due(t, now, tick) {
         t.set_greeting(now);
         t.send(0, 0, now.0, Body::Hello)
     } else {

@@ -48,13 +48,6 @@ fn want_lock(t: &Turn, session: &Session, now: Stamp, ino: u32, mode: Mode) -> O
     }
 }
 
-/// Whether the page is cached, or its place is known.
-fn is_at_hand(t: &Turn, ino: u32, page: PageNo) -> bool
-    ensures { result ≡ passes.is_at_hand t.now ino page }
-{
-    t.is_cached(ino, page) || t.known(ino, page).is_some()
-}
-
 #[tactic(auto, unfolding(st_rules::specs::ClientPasses::want_block))]
 fn want_block(t: &Turn, ino: u32, g: GrantNo, page: PageNo) -> Option<Wanted>
     ensures { result ≡ passes.want_block t.now ino g page }
@@ -129,7 +122,7 @@ pub fn want_held(t: &Turn, ask: &Ask, ino: u32, g: GrantNo) -> Result<Option<Wan
 {
     match ask {
         Ask::Read(_, page) => {
-            if is_at_hand(t, ino, *page) {
+            if t.is_cached(ino, *page) || t.known(ino, *page).is_some() {
                 Ok(None)
             } else {
                 Ok(on_behalf(Body::Map {
@@ -189,19 +182,6 @@ pub fn want_name(ask: &Ask) -> Result<Option<Wanted>, AllocError>
     }
 }
 
-#[tactic(auto, unfolding(st_rules::specs::ClientPasses::want, st_rules::specs::ClientPasses::want_at))]
-fn want(t: &Turn, session: &Session, now: Stamp, ask: &Ask) -> Result<Option<Wanted>, AllocError>
-    ensures { IfOk result (λ w. w ≡ passes.want t.now session.now.session now ask.now) }
-{
-    match ask {
-        Ask::Sync(_) => Ok(None),
-        _ => match file_of(ask) {
-            None => want_name(ask),
-            Some(ino) => want_on(t, session, now, ask, ino),
-        },
-    }
-}
-
 /// Whether the operation is of this server, was not sent, and is on a file that is neither demanded
 /// nor busy, or on none.
 pub fn may_ask(t: &Turn, session: &Session, o: &Operation) -> bool
@@ -212,7 +192,7 @@ pub fn may_ask(t: &Turn, session: &Session, o: &Operation) -> bool
         && (!is_sent(o) && is_open_file(t.operations(), server, session, file_of(&o.ask)))
 }
 
-#[tactic(auto, unfolding(st_rules::specs::ClientPasses::asked_by))]
+#[tactic(auto, unfolding(st_rules::specs::ClientPasses::asked_by, st_rules::specs::ClientPasses::want, st_rules::specs::ClientPasses::want_at))]
 fn asked_by(
     t: &Turn,
     session: &Session,
@@ -221,10 +201,15 @@ fn asked_by(
 ) -> Result<Option<Wanted>, AllocError>
     ensures { IfOk result (λ w. w ≡ passes.asked_by t.now session.now.session now o.now) }
 {
-    if may_ask(t, session, o) {
-        want(t, session, now, &o.ask)
-    } else {
-        Ok(None)
+    if !may_ask(t, session, o) {
+        return Ok(None);
+    }
+    match &o.ask {
+        Ask::Sync(_) => Ok(None),
+        ask => match file_of(ask) {
+            None => want_name(ask),
+            Some(ino) => want_on(t, session, now, ask, ino),
+        },
     }
 }
 

@@ -18,22 +18,6 @@ use st_operations::{OfServer, Operations, file_of, is_of, is_sent};
 use st_rules::Operation;
 use std::alloc::AllocError;
 
-/// An operation on a file that is neither demanded nor busy.
-#[tactic(auto, using(crate::proofs::Asks::patch_range), unfolding(st_rules::specs::ClientPasses::serve_open))]
-fn serve_open(t: &mut SessionTurn, now: Stamp, o: &Operation) -> Result<bool, AllocError>
-    requires serving { is_serving_at t.old now ≡ true }
-    requires fit { is_fit o.now ≡ true }
-    ensures left { OnOk result (t.new.operations ≡ t.old.operations) }
-    ensures stays { IfOk result (λ stays. put_back o.now stays t.new ≡ passes.serve_open t.old (session_of t.old) o.now o.now.ask) }
-{
-    match &o.ask {
-        Ask::Write(file, page, bytes) => write(t, now, o, *file, *page, bytes),
-        Ask::Patch(file, page, at, bytes) => patch(t, now, o, *file, *page, *at, bytes),
-        Ask::Read(file, page) => read(t, now, o, *file, *page),
-        _ => Ok(true),
-    }
-}
-
 /// Whether the file, if there is one, is neither demanded nor busy by these operations.
 pub fn is_open_file(
     all: &Operations,
@@ -49,8 +33,9 @@ pub fn is_open_file(
     }
 }
 
-/// In quiesce or later an operation that was not sent is answered so.
-#[tactic(auto, unfolding(st_rules::specs::ClientPasses::operate_under, st_rules::specs::ClientPasses::serve, st_rules::specs::ClientPasses::quiesce))]
+/// An operation on a file that is neither demanded nor busy is served; in quiesce or later one that
+/// was not sent is answered so.
+#[tactic(auto, using(crate::proofs::Asks::patch_range), unfolding(st_rules::specs::ClientPasses::serve_open, st_rules::specs::ClientPasses::operate_under, st_rules::specs::ClientPasses::serve, st_rules::specs::ClientPasses::quiesce))]
 fn operate_under(
     all: &Operations,
     t: &mut SessionTurn,
@@ -63,10 +48,14 @@ fn operate_under(
     ensures stays { IfOk result (λ stays. put_back o.now stays t.new ≡ passes.operate_under all.now t.old (session_of t.old) now o.now) }
 {
     if t.session().is_serving(now) {
-        if is_open_file(all, t.turn().server(), t.session(), file_of(&o.ask)) {
-            serve_open(t, now, o)
-        } else {
-            Ok(true)
+        if !is_open_file(all, t.turn().server(), t.session(), file_of(&o.ask)) {
+            return Ok(true);
+        }
+        match &o.ask {
+            Ask::Write(file, page, bytes) => write(t, now, o, *file, *page, bytes),
+            Ask::Patch(file, page, at, bytes) => patch(t, now, o, *file, *page, *at, bytes),
+            Ask::Read(file, page) => read(t, now, o, *file, *page),
+            _ => Ok(true),
         }
     } else if is_sent(o) {
         Ok(true)

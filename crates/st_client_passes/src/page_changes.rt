@@ -85,15 +85,8 @@ pub fn write(
     }
 }
 
-#[tactic(auto, unfolding(st_rules::specs::FlatLog::overlay))]
-fn put(into: &mut [u8], at: usize, bytes: &[u8])
-    requires { at + length bytes.now ≤ length into.old }
-    ensures { into.new ≡ overlay at bytes.now into.old }
-{
-    into[at..at + bytes.len()].copy_from_slice(bytes);
-}
-
 /// The page with these bytes in place of its own from index `at` on.
+#[tactic(auto, unfolding(st_rules::specs::FlatLog::overlay))]
 fn patched(
     alloc: Global,
     old: &PageBytes,
@@ -105,7 +98,9 @@ fn patched(
 {
     let mut whole = [0; 4096];
     old.write_to(&mut whole);
-    put(&mut whole, at as usize, bytes.as_slice());
+    let bytes = bytes.as_slice();
+    let at = at as usize;
+    whole[at..at + bytes.len()].copy_from_slice(bytes);
     PageBytes::from_slice(alloc, &whole)
 }
 

@@ -40,10 +40,11 @@ pub fn fetch(
     }
 }
 
-/// A read of a page that the file's lock covers: of its bytes if it is dirty or clean, of zeros
-/// if it is known as unmapped. A page that is known as mapped is fetched.
-#[tactic(auto, unfolding(st_rules::specs::ClientPasses::read_at, st_rules::specs::ClientPasses::read_cached, st_rules::specs::ClientPasses::read_uncached, st_rules::specs::ClientPasses::read_known))]
-fn read_held(
+/// A read of a page that the file's lock covers: of its bytes if it is dirty or clean, of zeros if
+/// it is known as unmapped. A page that is known as mapped is fetched. The operation stays pending
+/// while the file isn't held, or the page isn't cached.
+#[tactic(auto, unfolding(st_rules::specs::ClientPasses::read, st_rules::specs::ClientPasses::read_at, st_rules::specs::ClientPasses::read_cached, st_rules::specs::ClientPasses::read_uncached, st_rules::specs::ClientPasses::read_known))]
+pub fn read(
     t: &mut SessionTurn,
     now: Stamp,
     o: &Operation,
@@ -52,8 +53,11 @@ fn read_held(
 ) -> Result<bool, AllocError>
     requires serving { is_serving_at t.old now ≡ true }
     ensures left { OnOk result (t.new.operations ≡ t.old.operations) }
-    ensures stays { IfOk result (λ stays. put_back o.now stays t.new ≡ passes.read_at t.old o.now file page (pages.cached t.old.here.store.pages file.ino page)) }
+    ensures stays { IfOk result (λ stays. put_back o.now stays t.new ≡ passes.read t.old (session_of t.old) o.now file page) }
 {
+    if !holds(t.session(), Mode::S, file) {
+        return Ok(true);
+    }
     match t.read(now, file.ino, page)? {
         Some(bytes) => answer(t, o, AppAnswer::Read(bytes)),
         None => match t.turn().known(file.ino, page) {
@@ -68,26 +72,5 @@ fn read_held(
                 },
             ) => fetch(t, now, o, file, page),
         },
-    }
-}
-
-/// A read of a page. The operation stays pending while the file isn't held, or the page isn't
-/// cached.
-#[tactic(auto, unfolding(st_rules::specs::ClientPasses::read))]
-pub fn read(
-    t: &mut SessionTurn,
-    now: Stamp,
-    o: &Operation,
-    file: FileId,
-    page: PageNo,
-) -> Result<bool, AllocError>
-    requires serving { is_serving_at t.old now ≡ true }
-    ensures left { OnOk result (t.new.operations ≡ t.old.operations) }
-    ensures stays { IfOk result (λ stays. put_back o.now stays t.new ≡ passes.read t.old (session_of t.old) o.now file page) }
-{
-    if holds(t.session(), Mode::S, file) {
-        read_held(t, now, o, file, page)
-    } else {
-        Ok(true)
     }
 }

@@ -3,30 +3,25 @@ ghost use Rattle.std.specs.Prelude.{◌≡◌, OnOk};
 ghost use Rattle.st_client_association.specs.Turns.{session_of};
 ghost use Rattle.st_rules.specs.ClientLocks as locks;
 ghost use Rattle.st_rules.specs.ClientPasses as passes;
-ghost use Rattle.st_rules.specs.ClientState as client_state;
 
 use st_base::{GrantNo, Mode, PageNo};
 use st_client_association::{SessionTurn, Turn, is_busy};
 use st_client_session::Session;
 use std::alloc::AllocError;
 
-/// If the lock is gone, the clean pages and extents of the file go too.
-fn forget(t: &mut SessionTurn, ino: u32, to: Mode)
-    ensures { t.new ≡ client_state.with_store (passes.forgotten_at ino to t.old.here.store) t.old }
-{
-    match to {
-        Mode::None => t.forget_from(ino, PageNo(0)),
-        _ => {}
-    }
-}
-
 #[tactic(auto, unfolding(st_rules::specs::ClientPasses::reduce_to))]
 fn reduce_to(t: &mut SessionTurn, ino: u32, g: GrantNo, to: Mode) -> Result<(), AllocError>
     ensures { OnOk result (t.new ≡ passes.reduce_to t.old (session_of t.old) ino g to) }
 {
     t.release(ino, g, to)?;
-    forget(t, ino, to);
-    Ok(())
+    match to {
+        // The lock is gone, and the clean pages and extents of the file go too.
+        Mode::None => {
+            t.forget_from(ino, PageNo(0));
+            Ok(())
+        }
+        _ => Ok(()),
+    }
 }
 
 #[tactic(auto, unfolding(st_rules::specs::ClientPasses::reduce_by, st_rules::specs::ClientPasses::reduce_given))]

@@ -1,7 +1,6 @@
 // Requests to a server: the outstanding one again, or a new one.
 ghost use Rattle.std.specs.Prelude.{◌≡◌, false, true, OnOk};
 ghost use Rattle.st_client_association.specs.Turns.{session_of};
-ghost use Rattle.st_rules.specs.ClientLease as leases;
 ghost use Rattle.st_rules.specs.ClientPasses as passes;
 ghost use Rattle.st_rules.specs.ClientState as client_state;
 ghost use Rattle.st_client_passes.specs.Requests.{asking_at, is_free, marked_if};
@@ -14,27 +13,17 @@ use st_messages::Body;
 use st_rules::Phase;
 use std::alloc::AllocError;
 
-/// Whether keep-alives are sent: from renewal on.
-fn is_renewing(phase: Phase) -> bool
-    ensures { result ≡ leases.is_renewing phase }
-{
-    match phase {
-        Phase::Renewal => true,
-        Phase::Quiesce => true,
-        Phase::Flush => true,
-        _ => false,
-    }
-}
-
+/// A keep-alive, from renewal on.
 #[tactic(auto, unfolding(st_rules::specs::ClientPasses::keep_alive))]
 fn keep_alive(t: &mut SessionTurn, now: Stamp) -> Result<(), AllocError>
     requires free { is_free t.old ≡ true }
     ensures { OnOk result (t.new ≡ passes.keep_alive t.old (session_of t.old) now) }
 {
-    if is_renewing(t.session().phase(now)) {
-        t.ask(now, Body::KeepAlive, None)
-    } else {
-        Ok(())
+    match t.session().phase(now) {
+        Phase::Renewal => t.ask(now, Body::KeepAlive, None),
+        Phase::Quiesce => t.ask(now, Body::KeepAlive, None),
+        Phase::Flush => t.ask(now, Body::KeepAlive, None),
+        _ => Ok(()),
     }
 }
 

@@ -33,17 +33,6 @@ impl Test<Operation> for WantsWrites {
     }
 }
 
-/// Whether a cut or a remove waits for the file's pages.
-fn is_cut_wanted(t: &Turn, session: &Session, ino: u32) -> bool
-    ensures { result ≡ passes.is_cut_wanted t.now session.now.session ino }
-{
-    let cut = CutOn {
-        server: t.server(),
-        ino,
-    };
-    session.mode(ino).covers(Mode::X) && t.operations().any(&cut)
-}
-
 /// Whether the file is demanded, has a pending sync, or has a pending unsent cut or remove and an
 /// exclusive lock.
 pub fn is_wanted(t: &Turn, session: &Session, ino: u32) -> bool
@@ -53,7 +42,13 @@ pub fn is_wanted(t: &Turn, session: &Session, ino: u32) -> bool
         server: t.server(),
         ino,
     };
-    session.is_demanded(ino) || (t.operations().any(&sync) || is_cut_wanted(t, session, ino))
+    let cut = CutOn {
+        server: t.server(),
+        ino,
+    };
+    session.is_demanded(ino)
+        || (t.operations().any(&sync)
+            || (session.mode(ino).covers(Mode::X) && t.operations().any(&cut)))
 }
 
 /// Whether all dirty pages are submitted: the lease is in flush.
@@ -75,13 +70,6 @@ fn is_due(t: &SessionTurn, now: Stamp, tick: bool, page: &DirtyRow<'_>) -> bool
     } else {
         is_wanted(t.turn(), t.session(), page.ino()) && (!page.has_failed() || tick)
     }
-}
-
-/// Whether the page must be written now.
-fn is_writable(t: &SessionTurn, now: Stamp, tick: bool, page: &DirtyRow<'_>) -> bool
-    ensures { result ≡ passes.is_writable t.now (session_of t.now) now tick page.now }
-{
-    !t.turn().is_being_written(page.ino(), page.page()) && is_due(t, now, tick, page)
 }
 
 /// The page, which is dirty and not being written, is written if it is known to lie.
@@ -107,7 +95,9 @@ fn is_place_due(t: &SessionTurn, now: Stamp, tick: bool, ino: u32, page: PageNo)
 {
     match t.turn().dirty(ino, page) {
         None => false,
-        Some(dirty) => is_writable(t, now, tick, &dirty),
+        Some(dirty) => {
+            !t.turn().is_being_written(dirty.ino(), dirty.page()) && is_due(t, now, tick, &dirty)
+        }
     }
 }
 
