@@ -44,11 +44,18 @@ pub fn is_live(session: &Session) -> bool
     }
 }
 
-/// A greeting against a living session. `rows` tells whether the client has locks.
+/// A greeting against a session, which is living or ended. `rows` tells whether the client has
+/// locks.
 #[tactic(auto, unfolding(st_rules::specs::Sessions::sessions_open))]
-fn judge_live(session: &Session, life: Life, rows: bool) -> Judgement
-    ensures { (t : Sessions) (c : ClientId) → sessions.hello_live t c life rows session.now ≡ judged result t c life }
+fn judge_by(session: &Session, life: Life, rows: bool) -> Judgement
+    ensures { (t : Sessions) (c : ClientId) → sessions.hello_by t c life rows session.now ≡ judged result t c life }
 {
+    if !is_live(session) {
+        if life.0 <= session.life.0 {
+            return stays(Hello::Old);
+        }
+        return begins(Hello::Welcome);
+    }
     if life.0 < session.life.0 {
         return stays(Hello::Old);
     }
@@ -59,30 +66,6 @@ fn judge_live(session: &Session, life: Life, rows: bool) -> Judgement
         return stays(Hello::Wait);
     }
     begins(Hello::Replaced)
-}
-
-/// A greeting against an ended session.
-#[tactic(auto, unfolding(st_rules::specs::Sessions::sessions_open))]
-fn judge_ended(session: &Session, life: Life) -> Judgement
-    ensures { (t : Sessions) (c : ClientId) → sessions.hello_ended t c life session.now ≡ judged result t c life }
-{
-    if life.0 <= session.life.0 {
-        stays(Hello::Old)
-    } else {
-        begins(Hello::Welcome)
-    }
-}
-
-/// A greeting against a session.
-#[tactic(auto, unfolding(st_rules::specs::Sessions::hello_by))]
-fn judge_by(session: &Session, life: Life, rows: bool) -> Judgement
-    ensures { (t : Sessions) (c : ClientId) → sessions.hello_by t c life rows session.now ≡ judged result t c life }
-{
-    if is_live(session) {
-        judge_live(session, life, rows)
-    } else {
-        judge_ended(session, life)
-    }
 }
 
 /// A greeting of a client with this session, or without one.

@@ -10,42 +10,27 @@ use st_base::Life;
 use st_messages::Body;
 use st_rules::{Session, SessionState, Taken};
 
-/// The last number once more.
-#[tactic(auto, unfolding(st_rules::specs::Sessions::again))]
-fn again(reply: &Option<Body>) -> Taken<&Body>
-    ensures { sessions.taken_copied result ≡ sessions.again reply.now }
-{
-    match reply {
-        None => Taken::Stale,
-        Some(reply) => Taken::Again(reply),
-    }
-}
-
 /// A number against the last one that a living session served.
-#[tactic(auto, unfolding(st_rules::specs::Sessions::take_number, st_rules::specs::Sessions::take_from, st_rules::specs::Sessions::take_next))]
-fn take_number(last: u64, reply: &Option<Body>, number: u64) -> Taken<&Body>
-    ensures { sessions.taken_copied result ≡ sessions.take_number last reply.now number }
-{
-    if number < last {
-        return Taken::Stale;
-    }
-    if number == last {
-        return again(reply);
-    }
-    if number == last + 1 {
-        return Taken::Fresh;
-    }
-    Taken::OutOfOrder
-}
-
-#[tactic(auto, unfolding(st_rules::specs::Sessions::take_state))]
+#[tactic(auto, unfolding(st_rules::specs::Sessions::take_state, st_rules::specs::Sessions::take_number, st_rules::specs::Sessions::take_from, st_rules::specs::Sessions::take_next, st_rules::specs::Sessions::again))]
 fn take_state(state: &SessionState, number: u64) -> Taken<&Body>
     ensures { sessions.taken_copied result ≡ sessions.take_state state.now number }
 {
-    match state {
-        SessionState::Live { last, reply } => take_number(*last, reply, number),
-        SessionState::Ended => Taken::Stale,
+    let SessionState::Live { last, reply } = state else {
+        return Taken::Stale;
+    };
+    if number < *last {
+        return Taken::Stale;
     }
+    if number == *last {
+        return match reply {
+            None => Taken::Stale,
+            Some(reply) => Taken::Again(reply),
+        };
+    }
+    if number == *last + 1 {
+        return Taken::Fresh;
+    }
+    Taken::OutOfOrder
 }
 
 /// A request of this life and number against the client's session.

@@ -52,21 +52,6 @@ impl Sessions {
         self.rows.put(session)
     }
 
-    /// Begins a new session of the client.
-    fn begin(&mut self, client: ClientId, life: Life) -> Result<(), AllocError>
-        ensures ok { OnOk result (self.new ≡ sessions.with_new_session client life self.old) }
-        ensures err { OnErr result (self.new ≡ self.old) }
-    {
-        self.put(Session {
-            client,
-            life,
-            state: SessionState::Live {
-                last: 0,
-                reply: None,
-            },
-        })
-    }
-
     /// A client greets in this life; `rows` tells whether it has locks. It is welcome in the life
     /// of its living session, and wherever a new session begins: without a session, or in a life
     /// above an ended one's. A life above a living session's waits if the client has locks, and
@@ -79,7 +64,14 @@ impl Sessions {
     {
         let judgement = judge(self.rows.get(client), life, rows);
         if judgement.begins {
-            self.begin(client, life)?;
+            self.put(Session {
+                client,
+                life,
+                state: SessionState::Live {
+                    last: 0,
+                    reply: None,
+                },
+            })?;
             return Ok(judgement.hello);
         }
         Ok(judgement.hello)
