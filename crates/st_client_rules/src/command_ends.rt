@@ -10,16 +10,8 @@ use st_base::{FileId, PageBytes, PageNo, Tag};
 use st_client_association::Turn;
 use st_messages::AppAnswer;
 use st_operations::{ReadsPage, SyncOn};
-use st_rules::{Ended, IoKind, MappedBlock, PageCommand};
+use st_rules::{Ended, IoKind, PageCommand};
 use std::alloc::AllocError;
-
-/// Whether a tag is that of the page under this mapping.
-fn is_tag_of(file: FileId, page: PageNo, tag: Tag, mapping: MappedBlock) -> bool
-    ensures { result ≡ pages.is_tag_of file page tag mapping }
-{
-    (tag.file.server.0 == file.server.0 && tag.file.ino == file.ino)
-        && (tag.page.0 == page.0 && tag.birth == mapping.birth)
-}
 
 /// What a read found: the block's bytes if its tag is that of the known mapping, and otherwise
 /// zeros. The bytes are shared.
@@ -36,7 +28,9 @@ fn found(
     match t.mapping(file.ino, page) {
         None => Ok(PageBytes::filled(0)),
         Some(mapping) => {
-            if is_tag_of(file, page, tag, mapping) {
+            if (tag.file.server.0 == file.server.0 && tag.file.ino == file.ino)
+                && (tag.page.0 == page.0 && tag.birth == mapping.birth)
+            {
                 bytes.copy()
             } else {
                 Ok(PageBytes::filled(0))
@@ -45,39 +39,12 @@ fn found(
     }
 }
 
-/// The page that was read becomes the newest clean one.
-#[tactic(auto, unfolding(st_rules::specs::Client::filled_by))]
-fn filled_by(
-    t: &mut Turn,
-    c: PageCommand,
-    block: &Option<(Tag, PageBytes)>,
-) -> Result<(), AllocError>
-    requires { is_clean t.old c ≡ true }
-    ensures { OnOk result (t.new ≡ rules.filled_by t.old c block.now) }
-{
-    match block {
-        None => Ok(()),
-        Some((tag, bytes)) => {
-            let file = t.file(c.ino);
-            let bytes = found(t, file, c.page, *tag, bytes)?;
-            t.fill(c.ino, c.page, &bytes)
-        }
-    }
-}
-
-/// Whether the write is of the page as it is.
-fn is_present(t: &Turn, c: PageCommand, version: u64) -> bool
-    ensures { result ≡ rules.is_present t.now c version }
-{
-    t.dirty(c.ino, c.page).is_some() && t.version(c.ino, c.page) == version
-}
-
 /// If the page was not changed since, that is its failed command.
 #[tactic(auto, unfolding(st_rules::specs::Client::mark_failed))]
 fn mark_failed(t: &mut Turn, c: PageCommand, version: u64)
     ensures { t.new ≡ rules.mark_failed t.old c version }
 {
-    if is_present(t, c, version) {
+    if t.dirty(c.ino, c.page).is_some() && t.version(c.ino, c.page) == version {
         t.fail(c.ino, c.page, c.number);
     }
 }
@@ -107,7 +74,7 @@ fn write_failed(t: &mut Turn, c: PageCommand, version: u64) -> Result<(), AllocE
 }
 
 /// By how the command ended.
-#[tactic(auto, unfolding(st_rules::specs::Client::finish_as, st_rules::specs::Client::hardened))]
+#[tactic(auto, unfolding(st_rules::specs::Client::finish_as, st_rules::specs::Client::filled_by, st_rules::specs::Client::hardened))]
 fn finish_as(
     t: &mut Turn,
     c: PageCommand,
@@ -120,7 +87,15 @@ fn finish_as(
 {
     match ended {
         Ended::Unknown => Ok(()),
-        Ended::Filled => filled_by(t, c, block),
+        // The page that was read becomes the newest clean one.
+        Ended::Filled => match block {
+            None => Ok(()),
+            Some((tag, bytes)) => {
+                let file = t.file(c.ino);
+                let bytes = found(t, file, c.page, *tag, bytes)?;
+                t.fill(c.ino, c.page, &bytes)
+            }
+        },
         // The page that was written becomes the newest clean one.
         Ended::Hard => t.harden(c.ino, c.page),
         Ended::Redirty => Ok(()),

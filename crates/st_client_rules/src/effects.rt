@@ -21,28 +21,6 @@ pub fn granted(turn: &mut SessionTurn, ino: u32, g: GrantNo, mode: Mode) -> Resu
     turn.grant(ino, g, mode)
 }
 
-/// A map that found no rows makes its page known as unmapped.
-#[tactic(auto, unfolding(st_rules::specs::ClientReplies::learn))]
-fn learn(
-    turn: &mut SessionTurn,
-    ino: u32,
-    rows: &[ExtentRow],
-    asked: &Body,
-) -> Result<(), AllocError>
-    ensures { OnOk result (turn.new ≡ replies.learn turn.old ino rows.now asked.now) }
-{
-    match asked {
-        Body::Map { page, .. } => {
-            if rows.is_empty() {
-                turn.know_unmapped(ino, *page)
-            } else {
-                turn.know_rows(ino, rows)
-            }
-        }
-        _ => turn.know_rows(ino, rows),
-    }
-}
-
 fn is_grant(g: GrantNo, lock: Option<HeldLock>) -> bool
     ensures { result ≡ replies.is_grant g lock }
 {
@@ -63,7 +41,9 @@ fn is_current(session: &Session, asked: &Body) -> bool
     }
 }
 
-#[tactic(auto, unfolding(st_rules::specs::ClientReplies::extents))]
+/// The rows of a file, if its lock has the grant of the request. A map that found no rows makes its
+/// page known as unmapped.
+#[tactic(auto, unfolding(st_rules::specs::ClientReplies::extents, st_rules::specs::ClientReplies::learn))]
 fn extents(
     turn: &mut SessionTurn,
     ino: u32,
@@ -72,10 +52,18 @@ fn extents(
 ) -> Result<(), AllocError>
     ensures { OnOk result (turn.new ≡ replies.extents turn.old (session_of turn.old) ino rows.now asked.now) }
 {
-    if is_current(turn.session(), asked) {
-        learn(turn, ino, rows, asked)
-    } else {
-        Ok(())
+    if !is_current(turn.session(), asked) {
+        return Ok(());
+    }
+    match asked {
+        Body::Map { page, .. } => {
+            if rows.is_empty() {
+                turn.know_unmapped(ino, *page)
+            } else {
+                turn.know_rows(ino, rows)
+            }
+        }
+        _ => turn.know_rows(ino, rows),
     }
 }
 

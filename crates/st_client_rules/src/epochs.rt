@@ -5,7 +5,6 @@ ghost use Rattle.st_rules.specs.ClientReplies as replies;
 
 use st_base::{Epoch, Stamp};
 use st_client_association::{SessionTurn, Turn};
-use st_client_session::Session;
 use st_messages::{AppAnswer, Body, Header, Note, Why};
 use st_operations::RequestingOperation;
 use std::alloc::AllocError;
@@ -32,15 +31,8 @@ fn begin_session(turn: &mut Turn, now: Stamp, epoch: Epoch, stamp: Stamp) -> Res
     turn.note(Note::Leased { server, end })
 }
 
-/// Whether the client greets, and a lease of this stamp would not be over yet.
-fn is_timely(turn: &Turn, now: Stamp, stamp: Stamp) -> bool
-    requires { stamp.0 ≤ now.0 }
-    ensures { result ≡ replies.is_timely turn.now now stamp }
-{
-    turn.greeting().is_some() && now.0 - stamp.0 < turn.config().lease
-}
-
-/// Without a session every message but a welcome is ignored.
+/// Without a session every message but a welcome is ignored. A welcome begins one, if the client
+/// greets, and a lease of its stamp would not be over yet.
 #[tactic(auto, unfolding(st_rules::specs::ClientReplies::without_session, st_rules::specs::ClientReplies::welcome))]
 pub fn without_session(
     turn: &mut Turn,
@@ -54,7 +46,7 @@ pub fn without_session(
 {
     match body {
         Body::Welcome => {
-            if is_timely(turn, now, Stamp(h.stamp)) {
+            if turn.greeting().is_some() && now.0 - h.stamp < turn.config().lease {
                 begin_session(turn, now, Epoch(h.epoch), Stamp(h.stamp))
             } else {
                 Ok(())
@@ -64,39 +56,25 @@ pub fn without_session(
     }
 }
 
-#[tactic(auto, unfolding(st_rules::specs::ClientReplies::follow_epoch))]
-fn follow_epoch(turn: &mut SessionTurn, epoch: Epoch) -> Result<(), AllocError>
-    ensures { OnOk result (turn.new ≡ replies.follow_epoch turn.old (session_of turn.old) epoch) }
-{
-    let server = turn.turn().server();
-    let old = turn.session().epoch();
-    turn.begin_epoch(epoch);
-    turn.answer_each(
-        &RequestingOperation { server },
-        &AppAnswer::Uncertain(old.0, epoch.0),
-    )
-}
-
-/// Whether it is a later epoch, and the lease was not condemned.
-fn is_newer(session: &Session, epoch: Epoch) -> bool
-    ensures { result ≡ replies.is_newer session.now.session epoch }
-{
-    session.epoch().0 < epoch.0 && !session.is_condemned()
-}
-
-/// A message of another epoch: only a refusal as of another epoch tells of a newer one.
-#[tactic(auto, unfolding(st_rules::specs::ClientReplies::of_other_epoch, st_rules::specs::ClientReplies::newer_epoch))]
+/// A message of another epoch: only a refusal as of another epoch tells of a newer one, which the
+/// session follows unless its lease was condemned.
+#[tactic(auto, unfolding(st_rules::specs::ClientReplies::of_other_epoch, st_rules::specs::ClientReplies::newer_epoch, st_rules::specs::ClientReplies::follow_epoch))]
 pub fn of_other_epoch(turn: &mut SessionTurn, epoch: Epoch, body: &Body) -> Result<(), AllocError>
     ensures { OnOk result (turn.new ≡ replies.of_other_epoch turn.old (session_of turn.old) epoch body.now) }
 {
     match body {
         Body::Nack { why, .. } => match *why {
             Why::OtherEpoch => {
-                if is_newer(turn.session(), epoch) {
-                    follow_epoch(turn, epoch)
-                } else {
-                    Ok(())
+                let old = turn.session().epoch();
+                if !(old.0 < epoch.0 && !turn.session().is_condemned()) {
+                    return Ok(());
                 }
+                let server = turn.turn().server();
+                turn.begin_epoch(epoch);
+                turn.answer_each(
+                    &RequestingOperation { server },
+                    &AppAnswer::Uncertain(old.0, epoch.0),
+                )
             }
             _ => Ok(()),
         },
