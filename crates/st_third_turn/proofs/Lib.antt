@@ -1,0 +1,4 @@
+pub mod Shown
+mod Found
+mod Hello
+mod Owed
