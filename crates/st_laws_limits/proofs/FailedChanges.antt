@@ -1,5 +1,5 @@
--- What changes of a client's association leave of its dirty pages whose write failed: if as many pages are dirty as may be, and none
--- makes room, it was so before.
+-- What changes of a client's association leave of its dirty pages whose write failed: if as many pages
+-- are dirty as may be, and none makes room, it was so before.
 use Rattle.st_lemmas.proofs.Words
 use Words.{◌≡◌, ◌≤◌, ℕ, Bool, true, false, not, List, Option, Some, None, refl, sym, ap, subst, arith}
 use Words.{le-leb, leb-true, length, length-map, list_any, nat_le, DemandedFile, DirtyPage, HeldLock, Mode, PageCommand, Stamp}
@@ -54,7 +54,8 @@ on_same m next a b e q p =
           (comes_same m.dirty a.store.pages.dirty a.store.commands));
     }
 
-plain_pages : (m : Limits) (within : Bounds) → within.limits.dirty ≡ m.dirty → (now : Stamp) (t u : Turn) (c : client.Change now t u) → Continues within now t u c →
+plain_pages : (m : Limits) (within : Bounds) → within.limits.dirty ≡ m.dirty → (now : Stamp) (t u : Turn) (c : client.Change now t u) →
+    Continues within now t u c →
     PagesAt m t.next_command t.here → PagesOn m u.next_command t.here u.here
 unfolding passes.submit_read passes.submit_write passes.submit_command pages.written pages.forget_from pages.drop_from
 plain_pages m within b now t _ (client.Says _ o p) k f = on_same m t.next_command t.here t.here refl refl f
@@ -114,7 +115,8 @@ turn_pages {got} now m t _ (GivesBack _ s x e h) l f = on_same m t.plain.next_co
 turn_pages {got} now m t _ (Reduces _ s d ino e q i) l f = reduced_pages m t s d ino f
 
 -- The end of a command, done or failed.
-pub ends_at : (m : Limits) (t : Turn) (number : ℕ) (ok : Bool) (v : Turn) → Ends number ok t v → PagesAt m t.next_command t.here → PagesAt m t.next_command v.here
+pub ends_at : (m : Limits) (t : Turn) (number : ℕ) (ok : Bool) (v : Turn) → Ends number ok t v → PagesAt m t.next_command t.here →
+    PagesAt m t.next_command v.here
 unfolding plain.hardened pages.harden pages.harden_at pages.harden_page pages.fail
 ends_at m t number ok _ Unknown f = f
 ends_at m t number ok _ (Passes x e o) f =
@@ -155,7 +157,8 @@ done_comes m t number _ (Passes x e o) f =
 done_comes m t number _ (Hardens x v e o w q) f = go (pages.dirty_of t.here.store.pages x.ino x.page) refl
   where
     go : (d : Option DirtyPage) → pages.dirty_of t.here.store.pages x.ino x.page ≡ d →
-        Comes m.dirty t.here.store.pages.dirty t.here.store.commands (pages.harden_at t.here.store.pages d).dirty (pages.without_command number t.here.store.commands)
+        Comes m.dirty t.here.store.pages.dirty t.here.store.commands (pages.harden_at t.here.store.pages d).dirty
+        (pages.without_command number t.here.store.commands)
     go None i = comes_unfound m.dirty t.next_command t.here.store.pages.dirty t.here.store.commands f.fit number x e i
     go (Some d) i = comes_hardened m.dirty t.next_command t.here.store.pages.dirty t.here.store.commands f.fit number x e d i
 done_comes m t number _ (Fails x v e o w q) f = absurd (no o)

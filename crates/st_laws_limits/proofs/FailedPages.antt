@@ -1,6 +1,7 @@
 -- Dirty pages whose write failed and that aren't being written: where they come from when pages and commands change.
 use Rattle.st_lemmas.proofs.Words
-use Words.{◌≡◌, ◌≤◌, ◌<◌, ◌⊎◌, ◌+◌, ◌==◌, ◌&&◌, ◌||◌, ℕ, Bool, true, false, not, List, [], ◌∷◌, ◌++◌, Option, Some, None, refl, sym, ap, ◌∙◌, subst, inl, inr, arith, if◌then◌else◌}
+use Words.{◌≡◌, ◌≤◌, ◌<◌, ◌⊎◌, ◌+◌, ◌==◌, ◌&&◌, ◌||◌, [], ◌∷◌, ◌++◌, ◌∙◌, if◌then◌else◌}
+use Words.{ℕ, Bool, true, false, not, List, Option, Some, None, refl, sym, ap, subst, inl, inr, arith}
 use Words.{eq-eqb, eqb-true, filter, find, length, map, DirtyPage, IoKind, PageCommand, PageNo}
 use Words.io
 use Words.ClientPages as pages
@@ -30,7 +31,8 @@ at_page ino p y i e = and_both (y.ino == ino) (y.page.0 == p.0) (eq-eqb y.ino in
 
 once_found : (ds : List DirtyPage) → IsOnce ds → (d : DirtyPage) → Has d ds → find (pages.is_dirty_of d.ino d.page) ds ≡ Some d
 once_found [] o d h = absurd h
-once_found (x ∷ ds) o d (inl e) = go (pages.is_dirty_of d.ino d.page x) (at_page d.ino d.page x (ap (λ (y : DirtyPage). y.ino) (sym e)) (ap (λ (y : DirtyPage). y.page) (sym e)))
+once_found (x ∷ ds) o d (inl e) = go (pages.is_dirty_of d.ino d.page x)
+    (at_page d.ino d.page x (ap (λ (y : DirtyPage). y.ino) (sym e)) (ap (λ (y : DirtyPage). y.page) (sym e)))
   where
     go : (b : Bool) → b ≡ true → (if b then Some x else find (pages.is_dirty_of d.ino d.page) ds) ≡ Some d
     go true q = ap (λ y. Some y) (sym e)
@@ -104,8 +106,9 @@ failed_once ino p n (d ∷ ds) h = (
     same false true x = refl
     same false false x = refl
 
--- What always holds of the dirty pages and the commands of an association. Pages are dirty once. The numbers of commands are different ones, below that of the
--- next command. A page has one write, and after a failure this is a write of the page as it is.
+-- What always holds of the dirty pages and the commands of an association. Pages are dirty once. The
+-- numbers of commands are different ones, below that of the next command. A page has one write, and
+-- after a failure this is a write of the page as it is.
 pub record PagesFit (next : ℕ) (ds : List DirtyPage) (cs : List PageCommand) : Type 0 where
   pub once : IsOnce ds
   pub below : (c : PageCommand) → Has c cs → c.number < next
@@ -250,11 +253,13 @@ fit_written next ds cs f ino p new i q u =
     by d (inr h) r c j w = f.present d h r c j w
 
 -- a command ends, and leaves pages or takes some away
-pub fit_without : (next : ℕ) (ds : List DirtyPage) (cs : List PageCommand) → PagesFit next ds cs → (number : ℕ) → PagesFit next ds (pages.without_command number cs)
+pub fit_without : (next : ℕ) (ds : List DirtyPage) (cs : List PageCommand) → PagesFit next ds cs → (number : ℕ) →
+    PagesFit next ds (pages.without_command number cs)
 fit_without next ds cs f number =
     fit_fewer next ds ds cs (pages.without_command number cs) f f.once (λ d h. h) (λ c h. (has_filter (λ x. not (pages.is_numbered number x)) cs c h).0)
 
-pub fit_filtered : (next : ℕ) (ds : List DirtyPage) (cs : List PageCommand) → PagesFit next ds cs → (keeps : DirtyPage → Bool) → PagesFit next (filter keeps ds) cs
+pub fit_filtered : (next : ℕ) (ds : List DirtyPage) (cs : List PageCommand) → PagesFit next ds cs → (keeps : DirtyPage → Bool) →
+    PagesFit next (filter keeps ds) cs
 fit_filtered next ds cs f keeps = fit_fewer next ds (filter keeps ds) cs cs f (filter_once keeps ds f.once) (λ d h. (has_filter keeps ds d h).0) (λ c h. h)
 
 -- the command of a number, and no other one
@@ -280,7 +285,9 @@ fit_failed next ds cs f number k e write =
       below = λ c h. f.below c (fewer c h).0;
       own = λ c x h j r. f.own c x (fewer c h).0 (fewer x j).0 r;
       one = λ c x h j n o r s. f.one c x (fewer c h).0 (fewer x j).0 n o r s;
-      present = λ d h r c j w. let z = has_map (pages.fail_of k.ino k.page k.number) ds d h in by d z.0 z.1 z.2 (pages.is_dirty_of k.ino k.page z.0) refl r c (fewer c j) w;
+      present =
+          λ d h r c j w. let z = has_map (pages.fail_of k.ino k.page k.number) ds d h in
+          by d z.0 z.1 z.2 (pages.is_dirty_of k.ino k.page z.0) refl r c (fewer c j) w;
     }
   where
     fewer : (c : PageCommand) → Has c (pages.without_command number cs) → Has c cs × (not (pages.is_numbered number c) ≡ true)
@@ -289,7 +296,8 @@ fit_failed next ds cs f number k e write =
     found : (pages.is_numbered number k ≡ true) × Has k cs
     found = found_at (pages.is_numbered number) cs k e
 
-    by : (d x : DirtyPage) → Has x ds → d ≡ pages.fail_of k.ino k.page k.number x → (b : Bool) → pages.is_dirty_of k.ino k.page x ≡ b → is_unfailed d ≡ false →
+    by : (d x : DirtyPage) → Has x ds → d ≡ pages.fail_of k.ino k.page k.number x → (b : Bool) → pages.is_dirty_of k.ino k.page x ≡ b →
+        is_unfailed d ≡ false →
         (c : PageCommand) → Has c cs × (not (pages.is_numbered number c) ≡ true) → pages.is_write_of d.ino d.page c ≡ true → c.kind ≡ io.Write d.version
     by d x h i false q r c j w =
         let y : d ≡ x = i ∙ ap (λ b. if b then pages.failed_by k.number x else x) q in
@@ -301,11 +309,14 @@ fit_failed next ds cs f number k e write =
         let its : pages.is_write_of k.ino k.page c ≡ true =
         subst (λ n. pages.is_write_of n k.page c ≡ true) (ap (λ (v : DirtyPage). v.ino) y ∙ z.0)
         (subst (λ n. pages.is_write_of d.ino n c ≡ true) (ap (λ (v : DirtyPage). v.page) y ∙ z.1) w) in
-        let same : c ≡ k = f.one c k j.0 found.1 k.ino k.page its (and_both (pages.is_write k.kind) _ write (and_both (k.ino == k.ino) (k.page.0 == k.page.0) (eq-eqb k.ino k.ino refl) (eq-eqb k.page.0 k.page.0 refl))) in
+        let own : pages.is_write_of k.ino k.page k ≡ true =
+        and_both (pages.is_write k.kind) _ write
+        (and_both (k.ino == k.ino) (k.page.0 == k.page.0) (eq-eqb k.ino k.ino refl) (eq-eqb k.page.0 k.page.0 refl)) in
+        let same : c ≡ k = f.one c k j.0 found.1 k.ino k.page its own in
         absurd (not_both (pages.is_numbered number c) (ap (pages.is_numbered number) same ∙ found.0) (Words.Tables.not_true (pages.is_numbered number c) j.1))
 
--- Where failed pages come from: those that aren't being written were there and so before; and if there are as many pages as may be,
--- none of which makes room, it was so before.
+-- Where failed pages come from: those that aren't being written were there and so before; and if there
+-- are as many pages as may be, none of which makes room, it was so before.
 pub record Comes (n : ℕ) (ds : List DirtyPage) (cs : List PageCommand) (es : List DirtyPage) (fs : List PageCommand) : Type 0 where
   pub back : (d : DirtyPage) → Has d es → is_hopeful fs d ≡ false → Has d ds × (is_hopeful cs d ≡ false)
   pub all : length ds ≤ n → n ≤ length es → ((d : DirtyPage) → Has d es → is_hopeful fs d ≡ false) → (n ≤ length ds) × ((d : DirtyPage) → Has d ds → Has d es)
@@ -319,7 +330,8 @@ both_false false b e = (refl, e)
 
 -- a page isn't written by fewer commands, if its writes are among them
 hopeful_less : (cs fs : List PageCommand) (d : DirtyPage) →
-    (is_unfailed d ≡ false → (c : PageCommand) → Has c cs → pages.is_write_of d.ino d.page c ≡ true → Has c fs) → is_hopeful fs d ≡ false → is_hopeful cs d ≡ false
+    (is_unfailed d ≡ false → (c : PageCommand) → Has c cs → pages.is_write_of d.ino d.page c ≡ true → Has c fs) → is_hopeful fs d ≡ false →
+    is_hopeful cs d ≡ false
 hopeful_less cs fs d f e = ap (λ b. b || pages.is_being_written cs d.ino d.page) z.0 ∙ go (pages.is_being_written cs d.ino d.page) refl
   where
     z : (is_unfailed d ≡ false) × (pages.is_being_written fs d.ino d.page ≡ false)
