@@ -1,0 +1,4 @@
+pub mod Full
+pub mod Opened
+pub mod Stages
+pub mod Steps
