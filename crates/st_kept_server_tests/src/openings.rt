@@ -8,7 +8,7 @@ use st_new_file::{Header, KeepFault, MADE_PLACE, Stable, new_file};
 use std::alloc::{AllocError, Global};
 use std::test::Fail;
 
-fn identity() -> Identity
+pub(crate) fn identity() -> Identity
     ensures limits { IsWithinLimits result.server.0 result.servers result.disks result.blocks }
     ensures checked { IsOk (check result.settings) }
 {
@@ -62,7 +62,7 @@ fn marked(alloc: Global, front: &[u8], mark: u8) -> Result<Vec<u8>, AllocError> 
 
 /// The file of a server that never began an epoch. Its areas have 3,000 bytes each, and it has this
 /// mark.
-fn file(alloc: Global, mark: u8) -> Result<Vec<u8>, AllocError> {
+pub(crate) fn file(alloc: Global, mark: u8) -> Result<Vec<u8>, AllocError> {
     match fresh_front(alloc, 3000) {
         Ok(front) => marked(alloc, front.as_slice(), mark),
         Err(_) => Err(AllocError),
