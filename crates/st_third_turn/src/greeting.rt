@@ -66,7 +66,7 @@ impl Step {
 
     /// Greeting, without a session.
     #[tactic(auto, unfolding(st_third::specs::Leave::greet))]
-    pub fn greet(&mut self, now: Stamp, tick: bool) -> Result<(), AllocError>
+    pub(crate) fn greet(&mut self, now: Stamp, tick: bool) -> Result<(), AllocError>
         ensures { OnOk result (self.new ≡ leaving.greet self.old now tick) }
     {
         if self.must_greet(now, tick) {

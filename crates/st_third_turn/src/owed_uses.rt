@@ -76,7 +76,7 @@ impl OwedUses {
     }
 
     /// The file owes this operation a use, and no other; or it owes none.
-    pub fn owe(&mut self, ino: u32, op: Option<u32>) -> Result<(), AllocError>
+    pub(crate) fn owe(&mut self, ino: u32, op: Option<u32>) -> Result<(), AllocError>
         ensures { OnOk result (self.new ≡ with_op ino op self.old) }
     {
         self.rows.remove(key(ino));

@@ -87,7 +87,7 @@ impl SessionStep {
     /// When a file is locked in this mode, it owes a use to the first operation that the lock
     /// serves, and to no other.
     #[tactic(auto, using(crate::proofs::Owed::owed_by), unfolding(st_third::specs::UsedOnce::owe))]
-    pub fn owe(&mut self, ino: u32, mode: Mode) -> Result<(), AllocError>
+    pub(crate) fn owe(&mut self, ino: u32, mode: Mode) -> Result<(), AllocError>
         ensures { OnOk result (self.new ≡ used_once.owe self.old ino mode) }
     {
         let op = self.served(ino, mode);
