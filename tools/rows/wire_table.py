@@ -218,8 +218,8 @@ def table(constants):
     """The text of a table."""
     joint = "\\n\\\n"
     items = "".join(f'\n/// {says}\npub const {name}: &str = "{joint.join(lines)}";\n' for name, says, lines in constants)
-    return f"""//! Written by tools/rows/wire_table.py: bytes in runs, `HH` or `HH*COUNT`, a word for a header that many have, and
-//! the answers of an independent reading.
+    return f"""//! Written by tools/rows/wire_table.py: bytes in runs, `HH` or `HH*COUNT`, a word for a header that
+//! many have, and the answers of an independent reading.
 {items}"""
 
 

@@ -1,5 +1,5 @@
-//! Written by tools/rows/wire_table.py: bytes in runs, `HH` or `HH*COUNT`, a word for a header that many have, and
-//! the answers of an independent reading.
+//! Written by tools/rows/wire_table.py: bytes in runs, `HH` or `HH*COUNT`, a word for a header that
+//! many have, and the answers of an independent reading.
 
 /// Messages that only version 3 has.
 pub const MESSAGES: &str = "03 02 00 40 80 08 00*7 02 00*7 05 00*7 07 00*7 09\n\

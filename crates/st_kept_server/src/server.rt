@@ -147,7 +147,7 @@ impl KeptServer {
     }
 
     /// Opens a server on the bytes of its journal's file. It runs, in its next epoch; the change
-    /// that begins the epoch waits. `now` is a reading of its clock, and at most `limit` changes may
+    /// that begins the epoch waits. `now` is a reading of its clock. At most `limit` changes may
     /// wait to be kept. The server's number is from 1 to the number of servers, which is at most 4;
     /// there are at least as many disks as servers, and at most 8, of 1 to 4,096 blocks each.
     ///
@@ -387,9 +387,9 @@ impl KeptServer {
         Ok(write)
     }
 
-    /// What the program writes next; then it syncs, and calls `synced`. All that waits is one write:
-    /// a group, or a snapshot if the area is half full; the next write is its gate, or the switch.
-    /// `None` while a sync is due, or if nothing waits. An error changes nothing.
+    /// What the program writes next; then it syncs, and calls `synced`. All that waits is one
+    /// write: a group, or a snapshot if the area is half full; the next write is its gate, or the
+    /// switch. `None` while a sync is due, or if nothing waits. An error changes nothing.
     pub fn write(&mut self) -> Result<Option<Write>, AllocError>
         ensures next { IfOk result (WritesNext self.old self.new) }
         ensures due { IsDue self.old → IfOk result (BeginsDue self.old self.new) }

@@ -1,4 +1,5 @@
--- What open asks that had come before a step have noticed of servers that refused a page in it, since they were full, if full servers have no room in the volume.
+-- What open asks that had come before a step have noticed of servers that refused a page in it, since they were full, if full servers
+-- have no room in the volume.
 use Rattle.st_lemmas.proofs.Words
 use Words.{◌≡◌, ◌≤◌, arith, Bool, true, false, ◌==◌, Option, Some, refl, sym, ap, ◌∙◌}
 use Words.{eqb-true, filter, length, Ask, ClientId, ServerId}

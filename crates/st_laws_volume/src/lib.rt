@@ -481,9 +481,9 @@ pub fn room_is_wanted()
     ensures { InEveryRun RoomIsWanted }
 {}
 
-/// In every run, as each event begins, each server that has no free block, and hasn't mapped some
-/// page of its files for which room is wanted, is full in the volume, if the volume has taken the
-/// steps of all events before it.
+/// In every run, as each event begins, consider a server that has no free block, and hasn't mapped
+/// some page of its files for which room is wanted. It is full in the volume, if the volume has
+/// taken the steps of all events before this one.
 pub fn full_servers_have_no_room()
     ensures { InEveryRun FullServersHaveNoRoom }
 {}
